@@ -1,0 +1,11 @@
+pub mod Limits
+pub mod Lists
+pub mod Sets
+pub mod Tree
+pub mod Reading
+pub mod Running
+pub mod Flow
+pub mod Levels
+pub mod Answers
+pub mod Worked
+pub mod Promises
