@@ -1,3 +1,4 @@
 pub mod Text
 pub mod Views
 pub mod Readable
+pub mod Sound

@@ -1,1 +1,2 @@
 // The reader of recipe books.
+pub mod bytes;
