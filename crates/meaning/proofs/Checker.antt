@@ -3,12 +3,12 @@ use mathlib.Core.Path.{_≡_, refl, sym, _∙_}
 use mathlib.Core.Logic.{_⊎_, inl, inr}
 use mathlib.Core.Bool.{true, false}
 use mathlib.Core.List.{List}
-use Prim.Native.Nat.{ℕ, _+_}
+use Prim.Native.Nat.{ℕ, _+_, _<_}
 use native.Mathlib.Omega.{arith}
 use borrow.Author.Tests.{eqb-true, eq-eqb}
 use lib.Dec.{eqb}
 use lib.ListN.{length, getD}
-use Rattle.meaning.specs.Sets.{empty, union, inside, upto}
+use Rattle.meaning.specs.Sets.{empty, union, inside, upto, _⊆_}
 use Rattle.meaning.specs.Tree.{Expr, Cmd, Run, Closing, Book, variables, assign, branch, loop, stop, then, first, give, pick}
 use Rattle.meaning.specs.Reading.{Reading, refused, readable, read}
 use Rattle.meaning.specs.Flow.{at, bySets, row, arriving, flow, after, needs, needsIn, ends, startSets, demands, meets, limits, size, legal, satisfies}
@@ -85,25 +85,37 @@ module _ (σ : List ℕ) (w : ℕ) where
     returns-met (give e) Γ g h = also (record { lies = h }) done
     returns-met (pick e c d) Γ g h = all-append (returns-met c Γ (under e Γ g) (h .0)) (returns-met d Γ (under e Γ g) (h .1))
 
+-- All demands are met just where the rules hold of each procedure.
+pub satisfies-met : (b : Book) (σ : List ℕ) → length σ ≡ size b → All (Met σ) (demands b σ) →
+    ((k : ℕ) → k < size b → at σ k ⊆ upto (getD (limits b) k 0)) → Satisfies b σ
+satisfies-met b σ l m h =
+    record {
+      sized = l;
+      rules = λ p q e. returns σ (variables q) p (q .body) (startSets q) empty (demands-parts b σ m p q e);
+      legal = h;
+    }
+
+pub met-satisfies : (b : Book) (σ : List ℕ) → Satisfies b σ → All (Met σ) (demands b σ)
+met-satisfies b σ h =
+    parts-demands b σ (λ p q e. returns-met σ (variables q) p (q .body) (startSets q) empty (h .rules p q e))
+
 -- The checker's test of a summary of the right size.
 pub satisfies-sound : (b : Book) (σ : List ℕ) → length σ ≡ size b → satisfies b σ ≡ true → Satisfies b σ
 unfolding satisfies legal
 satisfies-sound b σ l h =
-    let met = demands-parts b σ (meets-sound σ (demands b σ) (both-left _ _ h)) in
-    record {
-      sized = l;
-      rules = λ p q e. returns σ (variables q) p (q .body) (startSets q) empty (met p q e);
-      legal = λ k i. inside-sound (at σ k) (upto (getD (limits b) k 0)) (every-sound (size b) (λ j. inside (at σ j) (upto (getD (limits b) j 0))) (both-right (meets σ (demands b σ)) _ h) k i);
-    }
+    satisfies-met b σ l (meets-sound σ (demands b σ) (both-left _ _ h)) λ k i.
+    inside-sound (at σ k) (upto (getD (limits b) k 0))
+    (every-sound (size b) (λ j. inside (at σ j) (upto (getD (limits b) j 0))) (both-right (meets σ (demands b σ)) _ h) k i)
 
 pub satisfies-complete : (b : Book) (σ : List ℕ) → Satisfies b σ → satisfies b σ ≡ true
 unfolding satisfies legal
 satisfies-complete b σ h =
-    both (meets-complete σ (parts-demands b σ (λ p q e. returns-met σ (variables q) p (q .body) (startSets q) empty (h .rules p q e))))
-    (every-complete (size b) (λ j. inside (at σ j) (upto (getD (limits b) j 0))) (λ k i. inside-complete (at σ k) (upto (getD (limits b) k 0)) (h .legal k i)))
+    both (meets-complete σ (met-satisfies b σ h))
+    (every-complete (size b) (λ j. inside (at σ j) (upto (getD (limits b) j 0)))
+    (λ k i. inside-complete (at σ k) (upto (getD (limits b) k 0)) (h .legal k i)))
 
 -- The refusal of a summary for a readable book.
-book-sound : (b : Book) (σ : List ℕ) → checkBook b σ ≡ 0 → Satisfies b σ
+pub book-sound : (b : Book) (σ : List ℕ) → checkBook b σ ≡ 0 → Satisfies b σ
 unfolding checkBook
 book-sound b σ h = go (holds-or-fails (eqb (length σ) (size b))) (holds-or-fails (satisfies b σ))
   where
@@ -112,7 +124,7 @@ book-sound b σ h = go (holds-or-fails (eqb (length σ) (size b))) (holds-or-fai
     go (inl p) (inr q) = let z = rw (p, q, checkBook) at h in absurd (omega arith)
     go (inr p) q = let z = rw (p, checkBook) at h in absurd (omega arith)
 
-book-complete : (b : Book) (σ : List ℕ) → Satisfies b σ → checkBook b σ ≡ 0
+pub book-complete : (b : Book) (σ : List ℕ) → Satisfies b σ → checkBook b σ ≡ 0
 unfolding checkBook
 book-complete b σ h = rw (eq-eqb (length σ) (size b) (h .sized), satisfies-complete b σ h, checkBook)
 
@@ -128,9 +140,14 @@ accepted book σ h = go (read book) refl
     go (refused f) e = let z = rw (e, checkAnswer) at h in let y = refused-number book e in absurd (omega arith)
     go (readable b) e = (b, e)
 
+-- An accepted summary of a readable book satisfies the rules, and back.
+pub accepted-satisfies : (book σ : List ℕ) {b : Book} → read book ≡ readable b → checkAnswer book σ ≡ 0 → Satisfies b σ
+accepted-satisfies book σ {b} e h = book-sound b σ (sym (accepts book σ e) ∙ h)
+
+pub satisfies-accepted : (book σ : List ℕ) {b : Book} → read book ≡ readable b → Satisfies b σ → checkAnswer book σ ≡ 0
+satisfies-accepted book σ {b} e h = accepts book σ e ∙ book-complete b σ h
+
 pub checker-exact : CheckerExact
 unfolding CheckerExact
-checker-exact book σ = (
-  λ h. let r = accepted book σ h in (r .0, r .1, book-sound (r .0) σ (sym (accepts book σ (r .1)) ∙ h)),
-  λ r. accepts book σ (r .1) ∙ book-complete (r .0) σ (r .2),
-)
+checker-exact book σ =
+    (λ h. let r = accepted book σ h in (r .0, r .1, accepted-satisfies book σ (r .1) h), λ r. satisfies-accepted book σ (r .1) (r .2))

@@ -1,15 +1,15 @@
 -- The test of a level table is exact, 'at or below' is an order, and the reported level is the join of its parameters' levels.
-use mathlib.Core.Path.{_≡_, refl}
+use mathlib.Core.Path.{_≡_, refl, sym}
 use mathlib.Core.Logic.{⊎-elim}
 use mathlib.Core.Bool.{Bool, true, false, cond}
 use mathlib.Core.List.{List}
-use Prim.Native.Nat.{ℕ, suc, _<_}
+use Prim.Native.Nat.{ℕ, suc, _≤_, _<_}
 use native.Mathlib.Omega.{arith}
 use lib.Dec.{leb}
 use lib.ListN.{getD}
 use borrow.Author.Tests.{eqb-true, eq-eqb, leb-true, le-leb, ltb-true, lt-ltb}
 use Rattle.meaning.specs.Limits.{most-levels}
-use Rattle.meaning.specs.Lists.{fold, every}
+use Rattle.meaning.specs.Lists.{fold, every, some-below}
 use Rattle.meaning.specs.Sets.{member, _⊆_}
 use Rattle.meaning.specs.Levels.{levels, join, pairs, shaped, closed, idempotent, commutative, associative, isBottom, valid, bottom, atOrBelow, reported}
 use Rattle.meaning.specs.Promises.{Laws, TableExact, Order, LevelsOrdered}
@@ -114,6 +114,25 @@ module _ (t : List ℕ) (l : Laws t) where
 pub levels-ordered : LevelsOrdered
 unfolding LevelsOrdered TableExact
 levels-ordered t v = order t (table-exact t .0 v)
+
+-- Two tests that pass together are one.
+same-truth : (a b : Bool) → (a ≡ true → b ≡ true) → (b ≡ true → a ≡ true) → a ≡ b
+same-truth true b f g = sym (f refl)
+same-truth false true f g = g refl
+same-truth false false f g = refl
+
+-- There is a bottom level just where what is found is one.
+pub bottom-tested : (t : List ℕ) → 1 ≤ levels t → isBottom t (bottom t) ≡ some-below (levels t) (λ a. isBottom t a)
+unfolding bottom
+bottom-tested t h =
+    same-truth (isBottom t (bottom t)) (some-below (levels t) (λ a. isBottom t a))
+    (λ e. some-complete (levels t) (isBottom t) (bottom t)
+    (fold-keeps (λ k r. r < levels t) (levels t) (λ a found. cond (isBottom t a) a found) 0 h
+    λ k r hk hr. cond-has (λ r. r < levels t) (isBottom t k) k r (λ p. hk) (λ p. hr))
+    e)
+    λ e.
+    let z = some-sound (levels t) (isBottom t) e in
+    picked (levels t) (isBottom t) (z .0) (z .1) (z .2) .1
 
 -- The reported level is the least that is at or above bottom and the levels of the parameters in the set.
 module _ (t ls : List ℕ) (n s : ℕ) (l : Laws t) (below : (j : ℕ) → j < n → getD ls j 0 < levels t) where

@@ -18,3 +18,9 @@ pub mod Widths
 pub mod Agree
 pub mod Interference
 pub mod Finished
+pub mod Demand3
+pub mod Reporter
+pub mod Weights
+pub mod Rounds
+pub mod Demands
+pub mod Finder

@@ -1,7 +1,7 @@
 -- Needs met by a summary, and a round that adds them.
 use mathlib.Core.Path.{_≡_, refl, sym, _∙_, subst}
-use mathlib.Core.Logic.{_≢_, _↔_}
-use mathlib.Core.Bool.{true, _&&_, and-assoc}
+use mathlib.Core.Logic.{_≢_, _↔_, _⊎_, inl, inr}
+use mathlib.Core.Bool.{true, false, _&&_, and-assoc}
 use mathlib.Core.List.{List, [], _∷_, _++_}
 use Prim.Native.Nat.{ℕ, _<_, _≤_}
 use native.Mathlib.Omega.{arith}
@@ -10,7 +10,7 @@ use lib.ListN.{length, set, length-set, List·getD-eq-default}
 use lib.Seq.{getD-set-same, getD-set-other, set-getD, set-out, ext-getD}
 use Rattle.meaning.specs.Sets.{empty, union, inside, _⊆_}
 use Rattle.meaning.specs.Flow.{Need, at, meets, grow}
-use Rattle.meaning.proofs.Lists.{both, both-left, both-right}
+use Rattle.meaning.proofs.Lists.{holds-or-fails, both, both-left, both-right}
 use Rattle.meaning.proofs.Sets.{inside-sound, inside-complete, sub-refl, sub-trans, sub-antisym, union-l, union-r, union-least, union-sub-l}
 use Rattle.meaning.proofs.Pairs.{All, done, also}
 
@@ -134,6 +134,14 @@ still-met σ ds p e = subst (λ (τ : List ℕ). All (Met τ) ds) e (grow-met σ
 
 pub meets-still : (σ : List ℕ) (ds : List (Need ℕ)) → All (Placed (length σ)) ds → meets σ ds ≡ true ↔ grow σ ds ≡ σ
 meets-still σ ds p = (λ h. met-still σ (meets-sound σ ds h), λ e. meets-complete σ (still-met σ ds p e))
+
+-- Needs treated as they arise may be tested against the summary as grown so far.
+pub meets-grown : (σ : List ℕ) (ds es : List (Need ℕ)) → meets σ (ds ++ es) ≡ (meets σ ds && meets (grow σ ds) es)
+meets-grown σ ds es = meets-append σ ds es ∙ go (holds-or-fails (meets σ ds))
+  where
+    go : (meets σ ds ≡ true) ⊎ (meets σ ds ≡ false) → (meets σ ds && meets σ es) ≡ (meets σ ds && meets (grow σ ds) es)
+    go (inl h) = rw (met-still σ (meets-sound σ ds h))
+    go (inr h) = rw h
 
 -- Summaries of one length that lie within each other are equal.
 pub below-antisym : (σ τ : List ℕ) → length σ ≡ length τ → Below σ τ → Below τ σ → σ ≡ τ

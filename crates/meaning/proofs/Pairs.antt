@@ -1,7 +1,7 @@
 -- What holds of each element of a list, and between the elements of two lists in order.
 use mathlib.Core.Path.{_≡_, refl, ap}
 use mathlib.Core.Logic.{⊎-elim}
-use mathlib.Core.List.{List, [], _∷_, _++_}
+use mathlib.Core.List.{List, [], _∷_, _++_, map}
 use mathlib.Core.Option.{some}
 use Prim.Native.Nat.{ℕ, zero, suc, _<_}
 use native.Mathlib.Omega.{arith}
@@ -64,6 +64,25 @@ module _ {A : Type 0} {P : A → Type 0} where
 pub all-mono : {A : Type 0} {P Q : A → Type 0} {s : List A} → ((a : A) → P a → Q a) → All P s → All Q s
 all-mono f done = done
 all-mono f (also {a} p h) = also (f a p) (all-mono f h)
+
+pub all-map : {A B : Type 0} {P : A → Type 0} {Q : B → Type 0} (f : A → B) → ((a : A) → P a → Q (f a)) →
+    {s : List A} → All P s → All Q (map f s)
+all-map f g done = done
+all-map f g (also {a} x h) = also (g a x) (all-map f g h)
+
+-- A list beside itself, and what a pairing says of the first list.
+pub all-pairs : {A : Type 0} {P : A → Type 0} {s : List A} → All P s → Pairs (λ a b. P a) s s
+all-pairs done = done
+all-pairs (also x h) = also x (all-pairs h)
+
+pub pairs-refl : {A : Type 0} {R : A → A → Type 0} → ((a : A) → R a a) → (s : List A) → Pairs R s s
+pairs-refl r [] = done
+pairs-refl r (a ∷ s) = also (r a) (pairs-refl r s)
+
+pub pairs-all : {A B : Type 0} {R : A → B → Type 0} {P : A → Type 0} {s : List A} {t : List B} →
+    ((a : A) (b : B) → R a b → P a) → Pairs R s t → All P s
+pairs-all f done = done
+pairs-all f (also {a} {b} x h) = also (f a b x) (pairs-all f h)
 
 module _ {A B : Type 0} {R : A → B → Type 0} where
   pub pairs-append : {s u : List A} {t v : List B} → Pairs R s t → Pairs R u v → Pairs R (s ++ u) (t ++ v)

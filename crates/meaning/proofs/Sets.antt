@@ -28,11 +28,11 @@ max-lt : {x y n : ℕ} → x < n → y < n → max x y < n
 max-lt p q = omega arith
 
 -- The lowest bit, and the bits above it.
-member-zero : (s : ℕ) → member 0 s ≡ eqb (s % 2) 1
+pub member-zero : (s : ℕ) → member 0 s ≡ eqb (s % 2) 1
 unfolding member
 member-zero s = rw div-one
 
-member-suc : (i s : ℕ) → member (suc i) s ≡ member i (s / 2)
+pub member-suc : (i s : ℕ) → member (suc i) s ≡ member i (s / 2)
 unfolding member
 member-suc i s = rw (← one-add i, ← shr-shr s 1 i)
 
