@@ -1,7 +1,7 @@
 -- The checker accepts just the summaries that satisfy the rules.
 use mathlib.Core.Path.{_≡_, refl, sym, _∙_}
-use mathlib.Core.Logic.{_⊎_, inl, inr}
-use mathlib.Core.Bool.{true, false}
+use mathlib.Core.Logic.{inl, inr}
+use mathlib.Core.Bool.{true}
 use mathlib.Core.List.{List}
 use Prim.Native.Nat.{ℕ, _+_, _<_}
 use native.Mathlib.Omega.{arith}
@@ -14,7 +14,7 @@ use Rattle.meaning.specs.Reading.{Reading, refused, readable, read}
 use Rattle.meaning.specs.Flow.{at, bySets, row, arriving, flow, after, needs, needsIn, ends, startSets, demands, meets, limits, size, legal, satisfies}
 use Rattle.meaning.specs.Answers.{checkBook, checkAnswer}
 use Rattle.meaning.specs.Promises.{Arrives, Rows, RowsIn, Returns, Satisfies, CheckerExact}
-use Rattle.meaning.proofs.Lists.{both, both-left, both-right, holds-or-fails, every-sound, every-complete}
+use Rattle.meaning.proofs.Lists.{both, both-left, both-right, Tested, holds-or-fails, every-sound, every-complete}
 use Rattle.meaning.proofs.Sets.{inside-sound, inside-complete}
 use Rattle.meaning.proofs.Pairs.{All, done, also, all-append, all-left, all-right, all-each, each-all}
 use Rattle.meaning.proofs.Needs.{Met, meets-sound, meets-complete}
@@ -48,13 +48,17 @@ module _ (σ : List ℕ) (w : ℕ) where
         (rows-in s Γ (under e Γ g) (all-left first _ h), rows-in t Γ (under e Γ g) (all-right first _ h))
     rows (loop k e s) Γ g h =
         let inner = all-right (arriving (bySets σ w) k Γ) _ h in
-        let body = needsIn s (bySets σ w) (held k) (under e (held k) g) in
-        (arrives k Γ (all-left (arriving (bySets σ w) k Γ) _ h), rows-in s (held k) (under e (held k) g) (all-left body _ inner), arrives k _ (all-right body _ inner))
+        let body = needsIn s (bySets σ w) (held k) (under e (held k) g) in (
+          arrives k Γ (all-left (arriving (bySets σ w) k Γ) _ h),
+          rows-in s (held k) (under e (held k) g) (all-left body _ inner),
+          arrives k _ (all-right body _ inner),
+        )
 
     rows-in : (s : Run) (Γ : List ℕ) (g : ℕ) → All (Met σ) (needsIn s (bySets σ w) Γ g) → RowsIn s σ w Γ g
     rows-in stop Γ g h = tt
     rows-in (then c s) Γ g h =
-        (rows c Γ g (all-left (needs c (bySets σ w) Γ g) _ h), rows-in s (after c (bySets σ w) Γ g) g (all-right (needs c (bySets σ w) Γ g) _ h))
+        let ahead = needs c (bySets σ w) Γ g in
+        (rows c Γ g (all-left ahead _ h), rows-in s (after c (bySets σ w) Γ g) g (all-right ahead _ h))
 
   mutual
     unfolding needs needsIn Rows RowsIn
@@ -73,7 +77,8 @@ module _ (σ : List ℕ) (w : ℕ) where
     returns : (c : Closing) (Γ : List ℕ) (g : ℕ) → All (Met σ) (ends c (bySets σ w) p Γ g) → Returns c σ w p Γ g
     unfolding ends Returns
     returns (first c r) Γ g h =
-        (rows c Γ g (all-left (needs c (bySets σ w) Γ g) _ h), returns r (after c (bySets σ w) Γ g) g (all-right (needs c (bySets σ w) Γ g) _ h))
+        let ahead = needs c (bySets σ w) Γ g in
+        (rows c Γ g (all-left ahead _ h), returns r (after c (bySets σ w) Γ g) g (all-right ahead _ h))
     returns (give e) Γ g (also m h) = m .lies
     returns (pick e c d) Γ g h =
         let one = ends c (bySets σ w) p Γ (under e Γ g) in
@@ -119,7 +124,7 @@ pub book-sound : (b : Book) (σ : List ℕ) → checkBook b σ ≡ 0 → Satisfi
 unfolding checkBook
 book-sound b σ h = go (holds-or-fails (eqb (length σ) (size b))) (holds-or-fails (satisfies b σ))
   where
-    go : (eqb (length σ) (size b) ≡ true) ⊎ (eqb (length σ) (size b) ≡ false) → (satisfies b σ ≡ true) ⊎ (satisfies b σ ≡ false) → Satisfies b σ
+    go : Tested (eqb (length σ) (size b)) → Tested (satisfies b σ) → Satisfies b σ
     go (inl p) (inl q) = satisfies-sound b σ (eqb-true (length σ) (size b) p) q
     go (inl p) (inr q) = let z = rw (p, q, checkBook) at h in absurd (omega arith)
     go (inr p) q = let z = rw (p, checkBook) at h in absurd (omega arith)

@@ -17,7 +17,7 @@ use Rattle.meaning.proofs.Pairs.{All, Pairs, done, also, all-mono, all-
 use Rattle.meaning.proofs.Needs.{Below, Met, Placed, meets-still}
 use Rattle.meaning.proofs.Parts.{parts-demands, pairs-demands}
 use Rattle.meaning.proofs.Walks.{Alike, Asked, walk-ends}
-use Rattle.meaning.proofs.Places.{RowIn, Laid, result-place, result-limit}
+use Rattle.meaning.proofs.Places.{RowIn, OwnRow, Laid, result-place, result-limit}
 use Rattle.meaning.proofs.Rounds.{Lawful}
 
 -- More positions chosen of larger sets gather more.
@@ -72,9 +72,11 @@ module _ {b : Book} (𝓛 : Laid b) where
   result-allows p q e = record { exists = result-place b p e; limit = result-limit b p e }
 
   pub demands-monotone : (σ τ : List ℕ) → Below σ τ → Pairs (Asked _⊆_ (λ k. Unit {0})) (demands b σ) (demands b τ)
-  demands-monotone σ τ h = pairs-demands b σ τ (λ p q e. walk-ends (alike q) (q .body) p tt (𝓛 .rows p q e) (pairs-refl sub-refl (startSets q)) (sub-refl empty))
+  demands-monotone σ τ h =
+      pairs-demands b σ τ λ p q e.
+      walk-ends (alike q) (q .body) p tt (𝓛 .rows p q e) (pairs-refl sub-refl (startSets q)) (sub-refl empty)
     where
-      alike : (q : Procedure) → Alike _⊆_ (RowIn (limits b) (variables q) (q .parameters)) (λ k. Unit {0}) (bySets σ (variables q)) (bySets τ (variables q))
+      alike : (q : Procedure) → Alike _⊆_ (OwnRow b q) (λ k. Unit {0}) (bySets σ (variables q)) (bySets τ (variables q))
       alike q =
           record {
             none = sub-refl empty;
@@ -91,7 +93,8 @@ module _ {b : Book} (𝓛 : Laid b) where
       pairs-all (λ d c a. record { exists = a .stands .exists })
       (walk-ends (alike q) (q .body) p (result-allows p q e) (𝓛 .rows p q e) {h = empty} (pairs-refl (λ s. tt) (startSets q)) tt)
     where
-      alike : (q : Procedure) → Alike {B = ℕ} (λ s t. Unit {0}) (RowIn (limits b) (variables q) (q .parameters)) (Allows b (q .parameters)) (bySets σ (variables q)) (bySets σ (variables q))
+      alike : (q : Procedure) →
+          Alike {B = ℕ} (λ s t. Unit {0}) (OwnRow b q) (Allows b (q .parameters)) (bySets σ (variables q)) (bySets σ (variables q))
       alike q =
           record {
             none = tt;
@@ -106,14 +109,19 @@ module _ {b : Book} (𝓛 : Laid b) where
   full-met =
       parts-demands b (full b) λ p q e.
       pairs-all (λ d c a. record { lies = rw (at-full b (d .place), a .stands .limit) (a .related) })
-      (walk-ends (alike q) (q .body) p (result-allows p q e) (𝓛 .rows p q e) {h = empty} (all-pairs (start-own q)) (empty-sub (upto (q .parameters))))
+      (walk-ends (alike q) (q .body) p (result-allows p q e) (𝓛 .rows p q e) {h = empty}
+      (all-pairs (start-own q)) (empty-sub (upto (q .parameters))))
     where
-      alike : (q : Procedure) → Alike {B = ℕ} (λ s t. s ⊆ upto (q .parameters)) (RowIn (limits b) (variables q) (q .parameters)) (Allows b (q .parameters)) (bySets (full b) (variables q)) (bySets (full b) (variables q))
+      alike : (q : Procedure) →
+          Alike {B = ℕ} (λ s t. s ⊆ upto (q .parameters)) (OwnRow b q) (Allows b (q .parameters))
+          (bySets (full b) (variables q)) (bySets (full b) (variables q))
       alike q =
           record {
             none = empty-sub (upto (q .parameters));
             join = λ p r. union-least p r;
-            called = λ p {s} {t} h. gather-least (at (full b) p) s (upto (q .parameters)) (λ i l m. pairs-getD h i {e = empty} (empty-sub (upto (q .parameters))));
+            called = λ p {s} {t} h.
+                gather-least (at (full b) p) s (upto (q .parameters))
+                (λ i l m. pairs-getD h i {e = empty} (empty-sub (upto (q .parameters))));
             held = λ k a. rw (at-full b k, a .limit) (sub-refl (upto (q .parameters)));
             width = refl;
             row-places = row-allows b (variables q) (q .parameters);

@@ -1,6 +1,6 @@
 -- The finder's summary is accepted and least, and its rounds are the fewest.
 use mathlib.Core.Path.{_≡_, refl, ap, _∙_}
-use mathlib.Core.Logic.{_≢_, _⊎_, inl, inr}
+use mathlib.Core.Logic.{_≢_, inl, inr}
 use mathlib.Core.Bool.{Bool, true, false}
 use mathlib.Core.List.{List, _++_}
 use Prim.Native.Nat.{ℕ, zero, suc, _+_, _*_, _^_, _≤_, _<_}
@@ -16,7 +16,7 @@ use Rattle.meaning.specs.Reading.{Reading, refused, readable, read}
 use Rattle.meaning.specs.Flow.{at, size, limits, demands, meets, grow, rounds, most-rounds, find}
 use Rattle.meaning.specs.Answers.{findBook, findAnswer, noFind}
 use Rattle.meaning.specs.Promises.{Finds, written, stage, Satisfies, FinderLeast, FinderRounds}
-use Rattle.meaning.proofs.Lists.{holds-or-fails}
+use Rattle.meaning.proofs.Lists.{Tested, holds-or-fails}
 use Rattle.meaning.proofs.Sets.{sub-trans, sub-below}
 use Rattle.meaning.proofs.Pairs.{All}
 use Rattle.meaning.proofs.Needs.{Below, Met, meets-sound, met-still}
@@ -27,11 +27,13 @@ use Rattle.meaning.proofs.Rounds.{First, staged, length-staged, staged-
 use Rattle.meaning.proofs.Demands.{full, at-full, full-met, full-small, lawful}
 
 -- One round: the last, or one more after it.
-pub rounds-last : (b : Book) (k : ℕ) (σ : List ℕ) (n : ℕ) → meets σ (demands b σ) ≡ true → rounds b (suc k) σ n ≡ record { summary = σ; rounds = suc n }
+pub rounds-last : (b : Book) (k : ℕ) (σ : List ℕ) (n : ℕ) → meets σ (demands b σ) ≡ true →
+    rounds b (suc k) σ n ≡ record { summary = σ; rounds = suc n }
 unfolding rounds
 rounds-last b k σ n h = rw (h, rounds)
 
-pub rounds-more : (b : Book) (k : ℕ) (σ : List ℕ) (n : ℕ) → meets σ (demands b σ) ≡ false → rounds b (suc k) σ n ≡ rounds b k (grow σ (demands b σ)) (suc n)
+pub rounds-more : (b : Book) (k : ℕ) (σ : List ℕ) (n : ℕ) → meets σ (demands b σ) ≡ false →
+    rounds b (suc k) σ n ≡ rounds b k (grow σ (demands b σ)) (suc n)
 unfolding rounds
 rounds-more b k σ n h = rw (h, rounds)
 
@@ -41,12 +43,13 @@ unfolding stage staged
 stage-staged b zero = refl
 stage-staged b (suc i) = rw (stage-staged b i)
 
--- The first stage that adds nothing.
-abbrev settled : Book → ℕ → Bool
+-- The round after stage i adds nothing.
+abbrev pub settled : Book → ℕ → Bool
 settled b i = meets (stage b i) (demands b (stage b i))
 
--- From an earlier stage on, enough rounds end there.
-pub rounds-first : (b : Book) (m : ℕ) → First (settled b) m → (k i : ℕ) → i ≤ m → m < i + k → rounds b k (stage b i) i ≡ record { summary = stage b m; rounds = suc m }
+-- From any stage up to the first that is settled, enough rounds end there.
+pub rounds-first : (b : Book) (m : ℕ) → First (settled b) m → (k i : ℕ) → i ≤ m → m < i + k →
+    rounds b k (stage b i) i ≡ record { summary = stage b m; rounds = suc m }
 unfolding stage
 rounds-first b m f zero i l h = absurd (omega arith)
 rounds-first b m f (suc k) i l h =
@@ -74,7 +77,8 @@ module _ {b : Book} (𝓑 : Laid b) where
       let s = settles (lawful 𝓑) in
       (s .0, s .1, record { holds = rw stage-staged at (s .2 .holds); earlier = λ j l. rw stage-staged at (s .2 .earlier j l) })
 
-  pub find-first : (m : ℕ) → m ≤ most-parameters * size b → First (settled b) m → find b ≡ record { summary = stage b m; rounds = suc m }
+  pub find-first : (m : ℕ) → m ≤ most-parameters * size b → First (settled b) m →
+      find b ≡ record { summary = stage b m; rounds = suc m }
   unfolding find most-rounds stage
   find-first m l f = rounds-first b m f (most-parameters * size b + 1) 0 (omega arith) (omega arith)
 
@@ -96,7 +100,7 @@ finds : (book buffer : List ℕ) → Finds book buffer → (b : Book) × (read b
 unfolding Finds findAnswer findBook noFind
 finds book buffer h = go (read book) refl
   where
-    room : (b : Book) → read book ≡ readable b → (leb (size b) (length buffer) ≡ true) ⊎ (leb (size b) (length buffer) ≡ false) → leb (size b) (length buffer) ≡ true
+    room : (b : Book) → read book ≡ readable b → Tested (leb (size b) (length buffer)) → leb (size b) (length buffer) ≡ true
     room b e (inl p) = p
     room b e (inr p) = let z = rw (e, findAnswer, p, findBook) at h in absurd (omega arith)
 
@@ -105,11 +109,13 @@ finds book buffer h = go (read book) refl
     go (readable b) e = (b, e, room b e (holds-or-fails (leb (size b) (length buffer))))
 
 found : (book buffer : List ℕ) (b : Book) → read book ≡ readable b → leb (size b) (length buffer) ≡ true →
-    findAnswer book buffer ≡ record { refusal = 0; size = size b; rounds = (find b) .rounds; buffer = (find b) .summary ++ drop (size b) buffer }
+    findAnswer book buffer
+    ≡ record { refusal = 0; size = size b; rounds = (find b) .rounds; buffer = (find b) .summary ++ drop (size b) buffer }
 unfolding findAnswer findBook
 found book buffer b e l = rw (e, findAnswer, l, findBook)
 
-written-found : (book buffer : List ℕ) (b : Book) → read book ≡ readable b → leb (size b) (length buffer) ≡ true → length ((find b) .summary) ≡ size b →
+written-found : (book buffer : List ℕ) (b : Book) → read book ≡ readable b → leb (size b) (length buffer) ≡ true →
+    length ((find b) .summary) ≡ size b →
     written book buffer ≡ (find b) .summary
 unfolding written
 written-found book buffer b e l s = rw (found book buffer b e l) (take-at ((find b) .summary) (drop (size b) buffer) (size b) s)
@@ -141,7 +147,8 @@ answered book buffer b e h =
 -- What the finder leaves satisfies the rules.
 pub stage-satisfies : {b : Book} → Laid b → (m : ℕ) → First (settled b) m → Satisfies b (stage b m)
 stage-satisfies {b} 𝓑 m f =
-    satisfies-met b (stage b m) (length-stage 𝓑 m) (meets-sound (stage b m) (demands b (stage b m)) (f .holds)) (λ k l. stage-legal 𝓑 m k)
+    satisfies-met b (stage b m) (length-stage 𝓑 m) (meets-sound (stage b m) (demands b (stage b m)) (f .holds))
+    (λ k l. stage-legal 𝓑 m k)
 
 pub finder-rounds : FinderRounds
 unfolding FinderRounds stage

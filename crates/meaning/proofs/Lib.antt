@@ -1,3 +1,4 @@
+pub mod Starred
 pub mod Lists
 pub mod Sets
 pub mod Levels

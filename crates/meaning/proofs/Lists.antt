@@ -1,4 +1,4 @@
--- Laws of the lists, folds and tests over the numbers below n.
+-- Laws of the lists, folds and tests over the numbers below n. Every theorem rests on these, and these come after the table of starred cases.
 use mathlib.Core.Path.{_≡_, refl, _∙_}
 use mathlib.Core.Logic.{_⊎_, inl, inr, ⊎-elim}
 use mathlib.Core.Bool.{Bool, true, false, _&&_, or-true}
@@ -10,6 +10,7 @@ use native.Mathlib.Decide.{ℕ-discrete}
 use lib.ListN.{length, getD, length-append, List·getD-append}
 use lib.Seq.{getD-at}
 use Rattle.meaning.specs.Lists.{each, fold, every, some-below}
+use Rattle.meaning.proofs.Starred
 
 -- A conjunction that holds, in its parts and back.
 pub both-left : (a b : Bool) → (a && b) ≡ true → a ≡ true
@@ -24,7 +25,10 @@ pub both : {a b : Bool} → a ≡ true → b ≡ true → (a && b) ≡ true
 both {a} {b} p q = rw (p, q)
 
 -- A test holds or fails.
-pub holds-or-fails : (t : Bool) → (t ≡ true) ⊎ (t ≡ false)
+abbrev pub Tested : Bool → Type 0
+Tested t = (t ≡ true) ⊎ (t ≡ false)
+
+pub holds-or-fails : (t : Bool) → Tested t
 holds-or-fails true = inl refl
 holds-or-fails false = inr refl
 
@@ -70,7 +74,8 @@ unfolding some-below
 some-sound zero f e = let z : _≡_ {A = ℕ} 0 1 = cc in absurd (omega arith)
 some-sound (suc n) f e = go (some-below n f) refl (some-sound n f)
   where
-    go : (t : Bool) → some-below n f ≡ t → (some-below n f ≡ true → (i : ℕ) × (i < n) × (f i ≡ true)) → (i : ℕ) × (i < suc n) × (f i ≡ true)
+    go : (t : Bool) → some-below n f ≡ t → (some-below n f ≡ true → (i : ℕ) × (i < n) × (f i ≡ true)) →
+        (i : ℕ) × (i < suc n) × (f i ≡ true)
     go true q ih = (ih q .0, omega (arith, ih q .1), ih q .2)
     go false q ih = (n, omega arith, rw q at e)
 

@@ -1,7 +1,7 @@
 -- Needs met by a summary, and a round that adds them.
 use mathlib.Core.Path.{_≡_, refl, sym, _∙_, subst}
-use mathlib.Core.Logic.{_≢_, _↔_, _⊎_, inl, inr}
-use mathlib.Core.Bool.{true, false, _&&_, and-assoc}
+use mathlib.Core.Logic.{_≢_, _↔_, inl, inr}
+use mathlib.Core.Bool.{true, _&&_, and-assoc}
 use mathlib.Core.List.{List, [], _∷_, _++_}
 use Prim.Native.Nat.{ℕ, _<_, _≤_}
 use native.Mathlib.Omega.{arith}
@@ -10,7 +10,7 @@ use lib.ListN.{length, set, length-set, List·getD-eq-default}
 use lib.Seq.{getD-set-same, getD-set-other, set-getD, set-out, ext-getD}
 use Rattle.meaning.specs.Sets.{empty, union, inside, _⊆_}
 use Rattle.meaning.specs.Flow.{Need, at, meets, grow}
-use Rattle.meaning.proofs.Lists.{holds-or-fails, both, both-left, both-right}
+use Rattle.meaning.proofs.Lists.{Tested, holds-or-fails, both, both-left, both-right}
 use Rattle.meaning.proofs.Sets.{inside-sound, inside-complete, sub-refl, sub-trans, sub-antisym, union-l, union-r, union-least, union-sub-l}
 use Rattle.meaning.proofs.Pairs.{All, done, also}
 
@@ -47,7 +47,8 @@ meets-complete σ (also {a = d} m h) = both (inside-complete (d .needed) (at σ 
 pub meets-append : (σ : List ℕ) (ds es : List (Need ℕ)) → meets σ (ds ++ es) ≡ (meets σ ds && meets σ es)
 unfolding meets
 meets-append σ [] es = refl
-meets-append σ (d ∷ ds) es = rw (meets-append σ ds es) (sym (and-assoc (inside (d .needed) (at σ (d .place))) (meets σ ds) (meets σ es)))
+meets-append σ (d ∷ ds) es =
+    rw (meets-append σ ds es) (sym (and-assoc (inside (d .needed) (at σ (d .place))) (meets σ ds) (meets σ es)))
 
 -- Adding one need.
 abbrev pub add : List ℕ → Need ℕ → List ℕ
@@ -139,7 +140,7 @@ meets-still σ ds p = (λ h. met-still σ (meets-sound σ ds h), λ e. meets-com
 pub meets-grown : (σ : List ℕ) (ds es : List (Need ℕ)) → meets σ (ds ++ es) ≡ (meets σ ds && meets (grow σ ds) es)
 meets-grown σ ds es = meets-append σ ds es ∙ go (holds-or-fails (meets σ ds))
   where
-    go : (meets σ ds ≡ true) ⊎ (meets σ ds ≡ false) → (meets σ ds && meets σ es) ≡ (meets σ ds && meets (grow σ ds) es)
+    go : Tested (meets σ ds) → (meets σ ds && meets σ es) ≡ (meets σ ds && meets (grow σ ds) es)
     go (inl h) = rw (met-still σ (meets-sound σ ds h))
     go (inr h) = rw h
 

@@ -114,4 +114,5 @@ pub pairs-by-place : {A B : Type 0} {R : A → B → Type 0} (s : List A) (t : L
 pairs-by-place [] [] d e l h = done
 pairs-by-place [] (b ∷ t) d e l h = absurd (omega arith)
 pairs-by-place (a ∷ s) [] d e l h = absurd (omega arith)
-pairs-by-place (a ∷ s) (b ∷ t) d e l h = also (h 0 (omega arith)) (pairs-by-place s t d e (omega arith) (λ i q. h (suc i) (omega arith)))
+pairs-by-place (a ∷ s) (b ∷ t) d e l h =
+    also (h 0 (omega arith)) (pairs-by-place s t d e (omega arith) (λ i q. h (suc i) (omega arith)))

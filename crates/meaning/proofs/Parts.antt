@@ -35,7 +35,9 @@ module _ {P : Need ℕ → Type 0} where
   from-parts : (p : ℕ) (qs : Book) (σ : List ℕ) → Each p qs (λ i q. All P (part i q σ)) → All P (demandsFrom p qs σ)
   unfolding demandsFrom
   from-parts p [] σ h = done
-  from-parts p (q ∷ qs) σ h = all-append (each-head p q qs (λ i r. All P (part i r σ)) h) (from-parts (suc p) qs σ (each-tail p q qs (λ i r. All P (part i r σ)) h))
+  from-parts p (q ∷ qs) σ h =
+      all-append (each-head p q qs (λ i r. All P (part i r σ)) h)
+      (from-parts (suc p) qs σ (each-tail p q qs (λ i r. All P (part i r σ)) h))
 
   to-parts : (p : ℕ) (qs : Book) (σ : List ℕ) → All P (demandsFrom p qs σ) → Each p qs (λ i q. All P (part i q σ))
   unfolding demandsFrom Each
@@ -49,21 +51,26 @@ module _ {P : Need ℕ → Type 0} where
       rw n (to-parts (suc p) qs σ (all-right (part p r σ) (demandsFrom (suc p) qs σ) h) i q e)
 
   -- What all demands have, each procedure's have, and back.
-  pub parts-demands : (b : Book) (σ : List ℕ) → ((p : ℕ) (q : Procedure) → getElem? b p ≡ some q → All P (part p q σ)) → All P (demands b σ)
+  pub parts-demands : (b : Book) (σ : List ℕ) → ((p : ℕ) (q : Procedure) → getElem? b p ≡ some q → All P (part p q σ)) →
+      All P (demands b σ)
   unfolding demands
   parts-demands b σ h = from-parts 0 b σ (from-zero b (λ p q. All P (part p q σ)) h)
 
-  pub demands-parts : (b : Book) (σ : List ℕ) → All P (demands b σ) → (p : ℕ) (q : Procedure) → getElem? b p ≡ some q → All P (part p q σ)
+  pub demands-parts : (b : Book) (σ : List ℕ) → All P (demands b σ) →
+      (p : ℕ) (q : Procedure) → getElem? b p ≡ some q → All P (part p q σ)
   unfolding demands Each
   demands-parts b σ h p q e = rw zero-add at (to-parts 0 b σ h p q e)
 
 module _ {R : Need ℕ → Need ℕ → Type 0} where
-  from-pairs : (p : ℕ) (qs : Book) (σ τ : List ℕ) → Each p qs (λ i q. Pairs R (part i q σ) (part i q τ)) → Pairs R (demandsFrom p qs σ) (demandsFrom p qs τ)
+  from-pairs : (p : ℕ) (qs : Book) (σ τ : List ℕ) → Each p qs (λ i q. Pairs R (part i q σ) (part i q τ)) →
+      Pairs R (demandsFrom p qs σ) (demandsFrom p qs τ)
   unfolding demandsFrom
   from-pairs p [] σ τ h = done
   from-pairs p (q ∷ qs) σ τ h =
-      pairs-append (each-head p q qs (λ i r. Pairs R (part i r σ) (part i r τ)) h) (from-pairs (suc p) qs σ τ (each-tail p q qs (λ i r. Pairs R (part i r σ) (part i r τ)) h))
+      pairs-append (each-head p q qs (λ i r. Pairs R (part i r σ) (part i r τ)) h)
+      (from-pairs (suc p) qs σ τ (each-tail p q qs (λ i r. Pairs R (part i r σ) (part i r τ)) h))
 
-  pub pairs-demands : (b : Book) (σ τ : List ℕ) → ((p : ℕ) (q : Procedure) → getElem? b p ≡ some q → Pairs R (part p q σ) (part p q τ)) → Pairs R (demands b σ) (demands b τ)
+  pub pairs-demands : (b : Book) (σ τ : List ℕ) →
+      ((p : ℕ) (q : Procedure) → getElem? b p ≡ some q → Pairs R (part p q σ) (part p q τ)) → Pairs R (demands b σ) (demands b τ)
   unfolding demands
   pairs-demands b σ τ h = from-pairs 0 b σ τ (from-zero b (λ p q. Pairs R (part p q σ) (part p q τ)) h)

@@ -61,36 +61,48 @@ module _ (w : ℕ) (Q : ℕ → Type 0) where
 
     placed-stands : (c : Cmd) (k : ℕ) → Within k (loops c) → Stands (placed w k c) Q
     placed-stands (assign x e) k h = tt
-    placed-stands (branch e s t) k h =
-        (placed-stands-in s k (within-left k (loopsIn s) (loopsIn t) h), placed-stands-in t (k + w * loopsIn s) (within-right k (loopsIn s) (loopsIn t) h))
+    placed-stands (branch e s t) k h = (
+      placed-stands-in s k (within-left k (loopsIn s) (loopsIn t) h),
+      placed-stands-in t (k + w * loopsIn s) (within-right k (loopsIn s) (loopsIn t) h),
+    )
     placed-stands (loop j e s) k h = (within-first k (loopsIn s) h, placed-stands-in s (k + w) (within-rest k (loopsIn s) h))
 
     placed-stands-in : (s : Run) (k : ℕ) → Within k (loopsIn s) → StandsIn (placedIn w k s) Q
     placed-stands-in stop k h = tt
-    placed-stands-in (then c s) k h =
-        (placed-stands c k (within-left k (loops c) (loopsIn s) h), placed-stands-in s (k + w * loops c) (within-right k (loops c) (loopsIn s) h))
+    placed-stands-in (then c s) k h = (
+      placed-stands c k (within-left k (loops c) (loopsIn s) h),
+      placed-stands-in s (k + w * loops c) (within-right k (loops c) (loopsIn s) h),
+    )
 
   placed-stands-of : (c : Closing) (k : ℕ) → Within k (loopsOf c) → StandsOf (placedOf w k c) Q
   unfolding loopsOf placedOf StandsOf
-  placed-stands-of (first c r) k h =
-      (placed-stands c k (within-left k (loops c) (loopsOf r) h), placed-stands-of r (k + w * loops c) (within-right k (loops c) (loopsOf r) h))
+  placed-stands-of (first c r) k h = (
+    placed-stands c k (within-left k (loops c) (loopsOf r) h),
+    placed-stands-of r (k + w * loops c) (within-right k (loops c) (loopsOf r) h),
+  )
   placed-stands-of (give e) k h = tt
-  placed-stands-of (pick e c d) k h =
-      (placed-stands-of c k (within-left k (loopsOf c) (loopsOf d) h), placed-stands-of d (k + w * loopsOf c) (within-right k (loopsOf c) (loopsOf d) h))
+  placed-stands-of (pick e c d) k h = (
+    placed-stands-of c k (within-left k (loopsOf c) (loopsOf d) h),
+    placed-stands-of d (k + w * loopsOf c) (within-right k (loopsOf c) (loopsOf d) h),
+  )
 
 -- A row of w sets at place k lies within the places of the limits ls, and n parameters are allowed there.
 pub record RowIn (ls : List ℕ) (w n k : ℕ) : Type 0 where
   pub fits : k + w ≤ length ls
   pub limit : (i : ℕ) → i < w → getD ls (k + i) 0 ≡ n
 
-stretch-limit : (front rest : List ℕ) (m n k : ℕ) → length front ≤ k → k < length front + m → getD (front ++ (replicate m n ++ rest)) k 0 ≡ n
+stretch-limit : (front rest : List ℕ) (m n k : ℕ) → length front ≤ k → k < length front + m →
+    getD (front ++ (replicate m n ++ rest)) k 0 ≡ n
 stretch-limit front rest m n k l r =
-    let s : k ≡ length front + (k - length front) = omega arith in
-    let h : k - length front < m = omega arith in
-    let h′ : k - length front < length (replicate m n) = rw length-replicate h in
-    rw s (getD-append-add front (replicate m n ++ rest) (k - length front) 0 ∙ List·getD-append (replicate m n) rest 0 (k - length front) h′ ∙ getD-replicate m (k - length front) n 0 h)
+    let i = k - length front in
+    let s : k ≡ length front + i = omega arith in
+    let h : i < m = omega arith in
+    let h′ : i < length (replicate m n) = rw length-replicate h in
+    rw s
+    (getD-append-add front (replicate m n ++ rest) i 0 ∙ List·getD-append (replicate m n) rest 0 i h′ ∙ getD-replicate m i n 0 h)
 
-stretch-row : (front rest : List ℕ) (w m n k : ℕ) → length front ≤ k → k + w ≤ length front + w * m → RowIn (front ++ (replicate (w * m) n ++ rest)) w n k
+stretch-row : (front rest : List ℕ) (w m n k : ℕ) → length front ≤ k → k + w ≤ length front + w * m →
+    RowIn (front ++ (replicate (w * m) n ++ rest)) w n k
 stretch-row front rest w m n k l r =
     record {
       fits = simp (length-append, length-replicate) (omega arith);
@@ -104,7 +116,8 @@ unfolding placedAll rowLimits Within
 rows-placed front [] p q e = let z : _≡_ {A = ℕ} 0 1 = cc in absurd (omega arith)
 rows-placed front (r ∷ qs) zero q e =
     let ls = front ++ (replicate (variables r * loopsOf (r .body)) (r .parameters) ++ rowLimits qs) in
-    let r′ : Procedure = record { parameters = r .parameters; locals = r .locals; body = placedOf (variables r) (length front) (r .body) } in
+    let r′ : Procedure =
+    record { parameters = r .parameters; locals = r .locals; body = placedOf (variables r) (length front) (r .body) } in
     let s : r′ ≡ q = cc in
     subst (λ (x : Procedure). StandsOf (x .body) (RowIn ls (variables x) (x .parameters))) s
     (placed-stands-of (variables r) (RowIn ls (variables r) (r .parameters)) (r .body) (length front)
@@ -158,7 +171,8 @@ result-place b p e = simp (length-append, length-map) (omega (arith, at-exists b
 pub result-limit : (b : Book) (p : ℕ) {q : Procedure} → getElem? b p ≡ some q → getD (limits b) p 0 ≡ q .parameters
 unfolding limits
 result-limit b p e =
-    List·getD-append (map (λ q. q .parameters) b) (rowLimits b) 0 p (simp length-map (at-exists b p e)) ∙ at-mapped (λ q. q .parameters) b p e
+    List·getD-append (map (λ q. q .parameters) b) (rowLimits b) 0 p (simp length-map (at-exists b p e))
+    ∙ at-mapped (λ q. q .parameters) b p e
 
 counted-placed : (k : ℕ) {qs : Book} → All Counted qs → All Counted (placedAll k qs)
 unfolding placedAll
@@ -166,22 +180,27 @@ counted-placed k done = done
 counted-placed k (also {a = q} c h) =
     also (record { parameters = c .parameters; locals = c .locals }) (counted-placed (k + variables q * loopsOf (q .body)) h)
 
+-- A place where a row of procedure q of the book may begin.
+abbrev pub OwnRow : Book → Procedure → ℕ → Type 0
+OwnRow b q = RowIn (limits b) (variables q) (q .parameters)
+
 -- What the layout of a readable book gives: each procedure's rows within its own places, and counts in their ranges.
 pub record Laid (b : Book) : Type 0 where
-  pub rows : (p : ℕ) (q : Procedure) → getElem? b p ≡ some q → StandsOf (q .body) (RowIn (limits b) (variables q) (q .parameters))
+  pub rows : (p : ℕ) (q : Procedure) → getElem? b p ≡ some q → StandsOf (q .body) (OwnRow b q)
   pub counted : All Counted b
   pub some-procedure : 1 ≤ length b
   pub few-procedures : length b ≤ most-procedures
   pub few-loops : loopsAll b ≤ most-loops
 
 rows-behind : (qs : Book) (p : ℕ) (q : Procedure) → getElem? (placedAll (length qs) qs) p ≡ some q →
-    StandsOf (q .body) (RowIn (limits (placedAll (length qs) qs)) (variables q) (q .parameters))
+    StandsOf (q .body) (OwnRow (placedAll (length qs) qs) q)
 unfolding limits
 rows-behind qs p q e =
     subst (λ ls. StandsOf (q .body) (RowIn ls (variables q) (q .parameters))) (sym (limits-placed (length qs) qs))
     (rows-placed (map (λ r. r .parameters) qs) qs p q (rw length-map e))
 
-pub laid-placed : (qs : Book) → All Counted qs → 1 ≤ length qs → length qs ≤ most-procedures → loopsAll qs ≤ most-loops → Laid (placedAll (length qs) qs)
+pub laid-placed : (qs : Book) → All Counted qs → 1 ≤ length qs → length qs ≤ most-procedures → loopsAll qs ≤ most-loops →
+    Laid (placedAll (length qs) qs)
 laid-placed qs c s l f =
     record {
       rows = rows-behind qs;
@@ -196,7 +215,7 @@ laid book e =
     let r = reads book e in
     rw (r .placing) (laid-placed (r .parsed) (all-counted r) (some-read r) (few-read r) (r .few))
 
--- The places in all: at most 32 results and 64 rows of 16 sets.
+-- The places in all: one for each procedure, and a row for each loop.
 rows-few : {qs : Book} → All Counted qs → length (rowLimits qs) ≤ (most-parameters + most-locals) * loopsAll qs
 unfolding rowLimits loopsAll
 rows-few done = omega arith

@@ -1,7 +1,7 @@
 -- What is known of a book that is refused, and of one that is readable.
 use mathlib.Core.Path.{_≡_, refl, sym, _∙_}
-use mathlib.Core.Logic.{_⊎_, inl, inr}
-use mathlib.Core.Bool.{true, false, _&&_}
+use mathlib.Core.Logic.{inl, inr}
+use mathlib.Core.Bool.{true, _&&_}
 use mathlib.Core.List.{List, [], _∷_}
 use Prim.Native.Nat.{ℕ, _+_, _≤_}
 use native.Mathlib.Omega.{arith}
@@ -11,7 +11,7 @@ use lib.ListN.{length}
 use Rattle.meaning.specs.Limits.{most-bytes, most-procedures, most-parameters, most-locals, most-loops}
 use Rattle.meaning.specs.Tree.{Closing, Procedure, Book}
 use Rattle.meaning.specs.Reading.{Entry, entry, procedures, contents-end, inTurn, bodyOf, Parsed, got, bad, Fault, Reading, refused, readable, contents, bodies, arities, entries, loopsAll, placedAll, fewLoops, wholeBodies, read}
-use Rattle.meaning.proofs.Lists.{length-each, both-left, both-right, holds-or-fails}
+use Rattle.meaning.proofs.Lists.{length-each, both-left, both-right, Tested, holds-or-fails}
 use Rattle.meaning.proofs.Pairs.{All, Pairs, done, also, pairs-length}
 
 -- The refusals of the reader are numbered from 1 on.
@@ -23,7 +23,7 @@ few-numbered : (qs : Book) → Numbered (fewLoops qs)
 unfolding fewLoops
 few-numbered qs = go (holds-or-fails (leb (loopsAll qs) most-loops))
   where
-    go : (leb (loopsAll qs) most-loops ≡ true) ⊎ (leb (loopsAll qs) most-loops ≡ false) → Numbered (fewLoops qs)
+    go : Tested (leb (loopsAll qs) most-loops) → Numbered (fewLoops qs)
     go (inl p) = rw (p, fewLoops) tt
     go (inr p) = rw (p, fewLoops) (omega arith)
 
@@ -39,7 +39,7 @@ read-numbered : (book : List ℕ) → Numbered (read book)
 unfolding read
 read-numbered book = go (holds-or-fails (leb 1 (length book) && leb (length book) most-bytes)) (holds-or-fails (contents book))
   where
-    go : (short book) ⊎ ((leb 1 (length book) && leb (length book) most-bytes) ≡ false) → (contents book ≡ true) ⊎ (contents book ≡ false) → Numbered (read book)
+    go : Tested (leb 1 (length book) && leb (length book) most-bytes) → Tested (contents book) → Numbered (read book)
     go (inl p) (inl q) = rw (p, q, read) (whole-numbered (bodies book (arities (entries book)) (entries book)))
     go (inl p) (inr q) = rw (p, q, read) (omega arith)
     go (inr p) q = rw (p, read) (omega arith)
@@ -65,11 +65,14 @@ few-readable : (qs : Book) {b : Book} → fewLoops qs ≡ readable b → (loopsA
 unfolding fewLoops
 few-readable qs {b} e = go (holds-or-fails (leb (loopsAll qs) most-loops))
   where
-    go : (leb (loopsAll qs) most-loops ≡ true) ⊎ (leb (loopsAll qs) most-loops ≡ false) → (loopsAll qs ≤ most-loops) × (b ≡ placedAll (length qs) qs)
-    go (inl p) = let q : readable (placedAll (length qs) qs) ≡ readable b = rw (p, fewLoops) at e in (leb-true (loopsAll qs) most-loops p, cc)
+    go : Tested (leb (loopsAll qs) most-loops) → (loopsAll qs ≤ most-loops) × (b ≡ placedAll (length qs) qs)
+    go (inl p) =
+        let q : readable (placedAll (length qs) qs) ≡ readable b = rw (p, fewLoops) at e in
+        (leb-true (loopsAll qs) most-loops p, cc)
     go (inr p) = never-both (rw (p, fewLoops) at e)
 
-whole-readable : (book : List ℕ) {b : Book} → short book → contents book ≡ true → (r : Parsed Book) → bodies book (arities (entries book)) (entries book) ≡ r → wholeBodies r ≡ readable b → Readable book b
+whole-readable : (book : List ℕ) {b : Book} → short book → contents book ≡ true → (r : Parsed Book) →
+    bodies book (arities (entries book)) (entries book) ≡ r → wholeBodies r ≡ readable b → Readable book b
 unfolding wholeBodies
 whole-readable book s c (bad r p) w e = never-both e
 whole-readable book s c (got qs n) w e =
@@ -79,7 +82,7 @@ pub reads : (book : List ℕ) {b : Book} → read book ≡ readable b → Readab
 unfolding read
 reads book {b} e = go (holds-or-fails (leb 1 (length book) && leb (length book) most-bytes)) (holds-or-fails (contents book))
   where
-    go : (short book) ⊎ ((leb 1 (length book) && leb (length book) most-bytes) ≡ false) → (contents book ≡ true) ⊎ (contents book ≡ false) → Readable book b
+    go : Tested (leb 1 (length book) && leb (length book) most-bytes) → Tested (contents book) → Readable book b
     go (inl p) (inl q) = whole-readable book p q (bodies book (arities (entries book)) (entries book)) refl (rw (p, q, read) at e)
     go (inl p) (inr q) = never-both (rw (p, q, read) at e)
     go (inr p) q = never-both (rw (p, read) at e)
@@ -125,7 +128,9 @@ bodies-pairs book ar (x ∷ es) {qs} {n} e = go (bodyOf book ar x) refl (bodies 
 
 all-entered : {es : List Entry} {qs : Book} → Pairs Entered es qs → All InRange es → All Counted qs
 all-entered done h = done
-all-entered (also {b = q} p r) (also x h) = also {a = q} (record { parameters = rw (p .parameters) (x .parameters); locals = rw (p .locals) (x .locals) }) (all-entered r h)
+all-entered (also {b = q} p r) (also x h) =
+    also {a = q} (record { parameters = rw (p .parameters) (x .parameters); locals = rw (p .locals) (x .locals) })
+    (all-entered r h)
 
 module _ {book : List ℕ} {b : Book} (r : Readable book b) where
   entered : Pairs Entered (entries book) (r .parsed)
@@ -151,4 +156,5 @@ module _ {book : List ℕ} {b : Book} (r : Readable book b) where
 
   pub few-read : length (r .parsed) ≤ most-procedures
   unfolding contents
-  few-read = rw length-read (leb-true (procedures book) most-procedures (both-left _ _ (both-right (leb 1 (procedures book)) _ (r .ordered))))
+  few-read =
+      rw length-read (leb-true (procedures book) most-procedures (both-left _ _ (both-right (leb 1 (procedures book)) _ (r .ordered))))

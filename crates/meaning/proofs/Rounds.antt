@@ -9,7 +9,7 @@ use native.Mathlib.Decide.{decLe}
 use lib.ListN.{length, replicate, length-replicate}
 use Rattle.meaning.specs.Sets.{empty, upto, _⊆_}
 use Rattle.meaning.specs.Flow.{Need, at, meets, grow}
-use Rattle.meaning.proofs.Lists.{holds-or-fails, below-suc}
+use Rattle.meaning.proofs.Lists.{Tested, holds-or-fails, below-suc}
 use Rattle.meaning.proofs.Sets.{sub-trans, empty-sub}
 use Rattle.meaning.proofs.Pairs.{All, Pairs, done, also, all-replicate, all-getD}
 use Rattle.meaning.proofs.Needs.{Below, Met, Placed, meets-complete, length-grow, grow-above, grow-least, still-met}
@@ -53,16 +53,17 @@ unfoldable pub staged : Asks → ℕ → ℕ → List ℕ
 staged asks n zero = nothing n
 staged asks n (suc i) = grow (staged asks n i) (asks (staged asks n i))
 
--- The first number below k at which the test holds, or it holds at none.
+-- The test holds at m for the first time.
 pub record First (f : ℕ → Bool) (m : ℕ) : Type 0 where
   pub holds : f m ≡ true
   pub earlier : (j : ℕ) → j < m → f j ≡ false
 
+-- The test holds at none of the numbers below k, or for the first time at one of them.
 first-below : (f : ℕ → Bool) (k : ℕ) → ((j : ℕ) → j < k → f j ≡ false) ⊎ ((m : ℕ) × (m < k) × First f m)
 first-below f zero = inl (λ j l. absurd (omega arith))
 first-below f (suc k) = go (first-below f k) (holds-or-fails (f k))
   where
-    go : ((j : ℕ) → j < k → f j ≡ false) ⊎ ((m : ℕ) × (m < k) × First f m) → (f k ≡ true) ⊎ (f k ≡ false)
+    go : ((j : ℕ) → j < k → f j ≡ false) ⊎ ((m : ℕ) × (m < k) × First f m) → Tested (f k)
         → ((j : ℕ) → j < suc k → f j ≡ false) ⊎ ((m : ℕ) × (m < suc k) × First f m)
     go (inl none) (inl h) = inr (k, omega arith, record { holds = h; earlier = none })
     go (inl none) (inr h) = inl (λ j l. ⊎-elim (λ m. none j m) (λ e. rw e h) (below-suc l))
@@ -98,7 +99,7 @@ module _ {asks : Asks} {n w : ℕ} (𝓛 : Lawful asks n w) where
       let top = rw (𝓛 .top-length) at (weight-bound w (𝓛 .bounded)) in
       omega (arith, below-weight (stage i) (𝓛 .top) same (staged-least (𝓛 .top) (𝓛 .topped) i))
 
-  -- A round that is not the last names one parameter more.
+  -- A round that is not the last adds something, so it names a parameter more.
   pub not-still : (i : ℕ) → settled i ≡ false → stage (suc i) ≢ stage i
   unfolding staged
   not-still i h e =
@@ -108,8 +109,10 @@ module _ {asks : Asks} {n w : ℕ} (𝓛 : Lawful asks n w) where
   heavier : (i : ℕ) → settled i ≡ false → weight (stage i) < weight (stage (suc i))
   unfolding staged
   heavier i h =
+      let rise = grow-above (stage i) (asks (stage i)) in
+      let sized = sym (length-grow (stage i) (asks (stage i))) in
       elim (decLe (weight (stage (suc i))) (weight (stage i))) [
-        | yes l ↦ absurd (not-still i h (sym (below-same (stage i) (stage (suc i)) (sym (length-grow (stage i) (asks (stage i)))) (grow-above (stage i) (asks (stage i))) l)))
+        | yes l ↦ absurd (not-still i h (sym (below-same (stage i) (stage (suc i)) sized rise l)))
         | no l ↦ omega arith
       ]
 
@@ -121,6 +124,7 @@ module _ {asks : Asks} {n w : ℕ} (𝓛 : Lawful asks n w) where
   pub settles : (m : ℕ) × (m ≤ w * n) × First settled m
   settles = go (first-below settled (suc (w * n)))
     where
-      go : ((j : ℕ) → j < suc (w * n) → settled j ≡ false) ⊎ ((m : ℕ) × (m < suc (w * n)) × First settled m) → (m : ℕ) × (m ≤ w * n) × First settled m
+      go : ((j : ℕ) → j < suc (w * n) → settled j ≡ false) ⊎ ((m : ℕ) × (m < suc (w * n)) × First settled m) →
+          (m : ℕ) × (m ≤ w * n) × First settled m
       go (inl none) = absurd (omega (arith, heavy (suc (w * n)) none, staged-weight (suc (w * n))))
       go (inr r) = (r .0, omega (arith, r .1), r .2)

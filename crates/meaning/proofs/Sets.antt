@@ -14,7 +14,7 @@ use lib.Pow.{pow-mono, pow-lt, shr-shr}
 use lib.Bits.{or-step, or-shr, or-lt, or-add-and, and-le-r}
 use lib.ListN.{length, getD}
 use Rattle.meaning.specs.Sets.{empty, single, union, member, inside, _⊆_, upto, gather}
-use Rattle.meaning.proofs.Lists.{holds-or-fails, fold-keeps, below-suc}
+use Rattle.meaning.proofs.Lists.{Tested, holds-or-fails, fold-keeps, below-suc}
 
 member-nil : (i : ℕ) → member i 0 ≡ false
 unfolding member
@@ -64,7 +64,7 @@ member-union i a b =
 below-or-at : (i j : ℕ) → (ltb i j || eqb i j) ≡ ltb i (suc j)
 below-or-at i j = go (holds-or-fails (ltb i j)) (holds-or-fails (eqb i j))
   where
-    go : (ltb i j ≡ true) ⊎ (ltb i j ≡ false) → (eqb i j ≡ true) ⊎ (eqb i j ≡ false) → (ltb i j || eqb i j) ≡ ltb i (suc j)
+    go : Tested (ltb i j) → Tested (eqb i j) → (ltb i j || eqb i j) ≡ ltb i (suc j)
     go (inl l) q = rw l (sym (lt-ltb i (suc j) (omega (arith, ltb-true i j l))))
     go (inr l) (inl q) = rw (l, q) (sym (lt-ltb i (suc j) (omega (arith, eqb-true i j q))))
     go (inr l) (inr q) =
@@ -119,7 +119,7 @@ pub inside-complete : (a b : ℕ) → a ⊆ b → inside a b ≡ true
 unfolding inside
 inside-complete a b h = eq-eqb (union a b) b (same-members (union a b) b λ i. member-union i a b ∙ go i (holds-or-fails (member i a)))
   where
-    go : (i : ℕ) → (member i a ≡ true) ⊎ (member i a ≡ false) → (member i a || member i b) ≡ member i b
+    go : (i : ℕ) → Tested (member i a) → (member i a || member i b) ≡ member i b
     go i (inl p) = rw (p, h .each i p)
     go i (inr p) = rw p
 
@@ -132,7 +132,7 @@ sub-trans p q = record { each = λ i m. q .each i (p .each i m) }
 pub sub-antisym : {a b : ℕ} → a ⊆ b → b ⊆ a → a ≡ b
 sub-antisym {a} {b} p q = same-members a b λ i. go i (holds-or-fails (member i a)) (holds-or-fails (member i b))
   where
-    go : (i : ℕ) → (member i a ≡ true) ⊎ (member i a ≡ false) → (member i b ≡ true) ⊎ (member i b ≡ false) → member i a ≡ member i b
+    go : (i : ℕ) → Tested (member i a) → Tested (member i b) → member i a ≡ member i b
     go i (inl m) n = m ∙ sym (p .each i m)
     go i (inr m) (inl n) = q .each i n ∙ sym n
     go i (inr m) (inr n) = m ∙ sym n
@@ -149,7 +149,7 @@ union-r a b = record { each = λ i m. rw (member-union i a b, m) (or-true (membe
 pub union-least : {a b c : ℕ} → a ⊆ c → b ⊆ c → union a b ⊆ c
 union-least {a} {b} {c} p q = record { each = λ i m. go i (holds-or-fails (member i a)) (sym (member-union i a b) ∙ m) }
   where
-    go : (i : ℕ) → (member i a ≡ true) ⊎ (member i a ≡ false) → (member i a || member i b) ≡ true → member i c ≡ true
+    go : (i : ℕ) → Tested (member i a) → (member i a || member i b) ≡ true → member i c ≡ true
     go i (inl m) n = p .each i m
     go i (inr m) n = q .each i (rw m at n)
 
@@ -196,13 +196,14 @@ gather-has S sets i l m =
     (λ j s h kept n. go j s kept (below-suc n) (holds-or-fails (member j S)))
     l
   where
-    go : (j s : ℕ) → (i < j → getD sets i empty ⊆ s) → (i < j) ⊎ (i ≡ j) → (member j S ≡ true) ⊎ (member j S ≡ false)
+    go : (j s : ℕ) → (i < j → getD sets i empty ⊆ s) → (i < j) ⊎ (i ≡ j) → Tested (member j S)
         → getD sets i empty ⊆ cond (member j S) (union s (getD sets j empty)) s
     go j s kept (inl n) (inl p) = rw p (sub-trans (kept n) (union-l s (getD sets j empty)))
     go j s kept (inl n) (inr p) = rw p (kept n)
     go j s kept (inr e) p = rw (← e, m) (union-r s (getD sets i empty))
 
-pub gather-least : (S : ℕ) (sets : List ℕ) (X : ℕ) → ((i : ℕ) → i < length sets → member i S ≡ true → getD sets i empty ⊆ X) → gather S sets ⊆ X
+pub gather-least : (S : ℕ) (sets : List ℕ) (X : ℕ) →
+    ((i : ℕ) → i < length sets → member i S ≡ true → getD sets i empty ⊆ X) → gather S sets ⊆ X
 unfolding gather
 gather-least S sets X h =
     fold-keeps (λ k s. s ⊆ X) (length sets)
@@ -210,7 +211,7 @@ gather-least S sets X h =
     (empty-sub X)
     (λ j s l kept. go j s kept (h j l) (holds-or-fails (member j S)))
   where
-    go : (j s : ℕ) → s ⊆ X → (member j S ≡ true → getD sets j empty ⊆ X) → (member j S ≡ true) ⊎ (member j S ≡ false)
+    go : (j s : ℕ) → s ⊆ X → (member j S ≡ true → getD sets j empty ⊆ X) → Tested (member j S)
         → cond (member j S) (union s (getD sets j empty)) s ⊆ X
     go j s kept new (inl p) = rw p (union-least kept (new p))
     go j s kept new (inr p) = rw p kept
@@ -223,7 +224,7 @@ small-member n s i h l = rw (div-eq-of-lt (lt-of-lt-of-le h (pow-mono l)))
 pub below-sub : (n s : ℕ) → s < 2 ^ n → s ⊆ upto n
 below-sub n s h = record { each = λ i m. rw member-upto (go i m (holds-or-fails (ltb i n))) }
   where
-    go : (i : ℕ) → member i s ≡ true → (ltb i n ≡ true) ⊎ (ltb i n ≡ false) → ltb i n ≡ true
+    go : (i : ℕ) → member i s ≡ true → Tested (ltb i n) → ltb i n ≡ true
     go i m (inl p) = p
     go i m (inr p) =
         let q : member i s ≡ false = small-member n s i h (ltb-false i n p) in

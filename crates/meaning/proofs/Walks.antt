@@ -87,7 +87,8 @@ module _ {A B : Type 0} {R : A → B → Type 0} {Q P : ℕ → Type 0} {W : Wal
   unfolding arriving
   walk-arriving k q {Γ} {Δ} p =
       subst (λ n. Pairs (Asked R P) (arriving W k Γ) (each n λ i. record { place = k + i; needed = getD Δ i (U .none) })) (𝓐 .width)
-      (pairs-each (W .width) (λ i. record { place = k + i; needed = getD Γ i (W .none) }) (λ i. record { place = k + i; needed = getD Δ i (U .none) })
+      (pairs-each (W .width) (λ i. record { place = k + i; needed = getD Γ i (W .none) })
+      (λ i. record { place = k + i; needed = getD Δ i (U .none) })
       (λ i l. record { same-place = refl; stands = 𝓐 .row-places k q i l; related = pairs-getD p i (𝓐 .none) }))
 
   mutual
@@ -101,7 +102,8 @@ module _ {A B : Type 0} {R : A → B → Type 0} {Q P : ℕ → Type 0} {W : Wal
     walk-needs (loop k e s) q p r =
         let guard = 𝓐 .join r (walk-flow e (walk-row k (q .0))) in
         pairs-append (walk-arriving k (q .0) p)
-        (pairs-append (walk-needs-in s (q .1) (walk-row k (q .0)) guard) (walk-arriving k (q .0) (walk-afters s (q .1) (walk-row k (q .0)) guard)))
+        (pairs-append (walk-needs-in s (q .1) (walk-row k (q .0)) guard)
+        (walk-arriving k (q .0) (walk-afters s (q .1) (walk-row k (q .0)) guard)))
 
     pub walk-needs-in : (s : Run) → StandsIn s Q → {Γ : List A} {Δ : List B} {g : A} {h : B} → Pairs R Γ Δ → R g h →
         Pairs (Asked R P) (needsIn s W Γ g) (needsIn s U Δ h)

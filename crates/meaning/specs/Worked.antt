@@ -1,19 +1,10 @@
 -- The eight starred cases of document 01 as one table, and one statement: the entries' definitions give every row.
-use mathlib.Core.Path.{_≡_, refl}
+use mathlib.Core.Path.{_≡_}
 use mathlib.Core.List.{List, [], _∷_, _++_, map}
 use Prim.Native.Nat.{ℕ}
 use lib.ListN.{replicate}
 use Rattle.meaning.specs.Limits.{least-cells, most-steps}
-use Rattle.meaning.specs.Lists.{each, fold, every, some-below}
-use Rattle.meaning.specs.Sets.{empty, single, union, member, inside, upto, gather}
-use Rattle.meaning.specs.Tree.{loops, loopsOf, placed, placedOf}
-use Rattle.meaning.specs.Reading.{more, andThen, next, passing, exprForm, constantAt, arguments, exprOf, expr, until, run, cmdForm, cmdOf, command}
-use Rattle.meaning.specs.Reading.{lastForm, closes, lastOf, closing, body, entries, inTurn, contents, arities, bodyOf, bodies, loopsAll, placedAll, fewLoops, wholeBodies, read}
-use Rattle.meaning.specs.Running.{yield, bind, tick, choose, truth, quotientOf, operate, value, turns, act, finish, runs}
-use Rattle.meaning.specs.Flow.{row, arriving, joined, flow, after, needs, ends, at, startSets, demandsFrom, demands, meets, rowLimits, limits, size, legal, satisfies, grow, rounds, most-rounds, find}
-use Rattle.meaning.specs.Levels.{join, pairs, shaped, closed, idempotent, commutative, associative, isBottom, valid, bottom, reported}
-use Rattle.meaning.specs.Answers.{endingNumber, ran, runOf, noRun, cleared, runBook, runAnswer, checkBook, checkAnswer, noFind, findBook, findAnswer}
-use Rattle.meaning.specs.Answers.{noLevel, fitting, levelOf, levelBook, levelAnswer, digits, decimal, lines, listing}
+use Rattle.meaning.specs.Answers.{runAnswer, checkAnswer, findAnswer, levelAnswer, listing}
 
 -- The books.
 abbrev A : List ℕ
@@ -126,7 +117,6 @@ table =
     ∷ (listed M answers (48 ∷ 32 ∷ 50 ∷ 32 ∷ 48 ∷ 32 ∷ 51 ∷ 10 ∷ 49 ∷ 32 ∷ 49 ∷ 32 ∷ 48 ∷ 32 ∷ 49 ∷ 10 ∷ []))
     ∷ []
 
--- The definitions of the entries, from the bytes, give every row.
-pub worked : map (λ r. ask (r .question)) table ≡ map (λ r. r .answer) table
-unfolding each fold every some-below empty single union member inside upto gather loops loopsOf placed placedOf more andThen next passing exprForm constantAt arguments exprOf expr until run cmdForm cmdOf command lastForm closes lastOf closing body entries inTurn contents arities bodyOf bodies loopsAll placedAll fewLoops wholeBodies read yield bind tick choose truth quotientOf operate value turns act finish runs row arriving joined flow after needs ends at startSets demandsFrom demands meets rowLimits limits size legal satisfies grow rounds most-rounds find join pairs shaped closed idempotent commutative associative isBottom valid bottom reported endingNumber ran runOf noRun cleared runBook runAnswer checkBook checkAnswer noFind findBook findAnswer noLevel fitting levelOf levelBook levelAnswer digits decimal lines listing
-worked = refl
+-- The definitions of the entries, from the bytes, give every row. `meaning/proofs/Starred` proves it.
+abbrev pub EveryRow : Type 0
+EveryRow = map (λ r. ask (r .question)) table ≡ map (λ r. r .answer) table
