@@ -2,52 +2,26 @@
 use mathlib.Core.Path.{_≡_, refl}
 use mathlib.Core.Logic.{_≢_}
 use mathlib.Core.Bool.{true, false}
-use mathlib.Core.List.{List, [], _∷_, _++_}
+use mathlib.Core.List.{List, [], _∷_}
 use Prim.Native.Nat.{ℕ, zero, suc, _<_}
 use native.Mathlib.Omega.{arith}
-use lib.ListN.{getD, replicate}
-use Rattle.meaning.specs.Limits.{least-cells, most-steps}
-use Rattle.meaning.specs.Lists.{each, fold, every, some-below}
-use Rattle.meaning.specs.Sets.{empty, single, union, member, inside, upto, gather}
-use Rattle.meaning.specs.Tree.{loops, loopsOf, placed, placedOf}
-use Rattle.meaning.specs.Reading.{more, andThen, next, passing, exprForm, constantAt, arguments, exprOf, expr, until, run, cmdForm, cmdOf, command}
-use Rattle.meaning.specs.Reading.{lastForm, closes, lastOf, closing, body, entries, inTurn, contents, arities, bodyOf, bodies, loopsAll, placedAll, fewLoops, wholeBodies, read}
-use Rattle.meaning.specs.Running.{yield, bind, tick, choose, truth, quotientOf, operate, value, turns, act, finish, runs}
-use Rattle.meaning.specs.Flow.{at, row, arriving, joined, flow, after, needs, ends, startSets, demandsFrom, demands, meets, rowLimits, limits, size, legal, satisfies, grow, rounds, most-rounds, find}
-use Rattle.meaning.specs.Levels.{join, pairs, shaped, closed, idempotent, commutative, associative, isBottom, valid, bottom, atOrBelow, reported}
-use Rattle.meaning.specs.Answers.{finished, endingNumber, ran, runOf, noRun, cleared, runBook, runAnswer, checkBook, checkAnswer, noFind, findBook, findAnswer}
-use Rattle.meaning.specs.Answers.{noLevel, fitting, levelOf, levelBook, levelAnswer}
+use lib.ListN.{getD}
+use Rattle.meaning.specs.Limits.{most-steps}
+use Rattle.meaning.specs.Sets.{empty, upto}
+use Rattle.meaning.specs.Flow.{at}
+use Rattle.meaning.specs.Levels.{atOrBelow}
+use Rattle.meaning.specs.Answers.{finished, runAnswer, checkAnswer, levelAnswer}
+use Rattle.meaning.specs.Worked.{B, M, work}
 use Rattle.meaning.specs.Promises.{Finds, written}
-
--- To unfold this is to unfold the entries' definitions.
-computed : Unit {0}
-unfolding each fold every some-below empty single union member inside upto gather loops loopsOf placed placedOf more andThen next passing exprForm constantAt arguments exprOf expr until run cmdForm cmdOf command lastForm closes lastOf closing body entries inTurn contents arities bodyOf bodies loopsAll placedAll fewLoops wholeBodies read yield bind tick choose truth quotientOf operate value turns act finish runs at row arriving joined flow after needs ends startSets demandsFrom demands meets rowLimits limits size legal satisfies grow rounds most-rounds find join pairs shaped closed idempotent commutative associative isBottom valid bottom atOrBelow reported endingNumber ran runOf noRun cleared runBook runAnswer checkBook checkAnswer noFind findBook findAnswer noLevel fitting levelOf levelBook levelAnswer Finds written
-computed = tt
-
--- Two procedures with a loop and calls, as in document 01.
-abbrev M : List ℕ
-M =
-    (0x02 ∷ 0x0D ∷ 0x00 ∷ 0x23 ∷ 0x00 ∷ 0x02 ∷ 0x00 ∷ 0x30 ∷ 0x00 ∷ 0x19 ∷ 0x00 ∷ 0x01 ∷ 0x00 ∷ [])
-    ++ ((0x03 ∷ 0x11 ∷ 0x00 ∷ 0x01 ∷ 0x01 ∷ 0x12 ∷ 0x00 ∷ 0x11 ∷ 0x00 ∷ 0x10 ∷ 0x01 ∷ 0x00 ∷ 0x00 ∷ 0x00
-    ∷ 0x01 ∷ 0x00 ∷ 0x12 ∷ 0x01 ∷ 0x11 ∷ 0x01 ∷ 0x10 ∷ 0x04 ∷ 0x00 ∷ 0x00 ∷ 0x00 ∷ 0x00
-    ∷ 0x04 ∷ 0x12 ∷ 0x00 ∷ 0x13 ∷ 0x01 ∷ 0x11 ∷ 0x00 ∷ 0x11 ∷ 0x01 ∷ [])
-    ++ (0x05 ∷ 0x11 ∷ 0x00 ∷ 0x04 ∷ 0x12 ∷ 0x02 ∷ 0x11 ∷ 0x00 ∷ 0x13 ∷ 0x01 ∷ 0x12 ∷ 0x01 ∷ 0x11 ∷ 0x00
-    ∷ 0x10 ∷ 0x01 ∷ 0x00 ∷ 0x00 ∷ 0x00 ∷ 0x04 ∷ 0x10 ∷ 0x00 ∷ 0x00 ∷ 0x00 ∷ 0x00 ∷ []))
+use Rattle.meaning.proofs.Starred.{computed}
 
 -- Two parameters, of which the first is returned.
 abbrev N : List ℕ
 N = 0x01 ∷ 0x07 ∷ 0x00 ∷ 0x03 ∷ 0x00 ∷ 0x02 ∷ 0x00 ∷ 0x04 ∷ 0x11 ∷ 0x00 ∷ []
 
--- One parameter, and a body that only calls itself.
-abbrev B : List ℕ
-B = 0x01 ∷ 0x07 ∷ 0x00 ∷ 0x05 ∷ 0x00 ∷ 0x01 ∷ 0x00 ∷ 0x04 ∷ 0x13 ∷ 0x00 ∷ 0x11 ∷ 0x00 ∷ []
-
 -- Two levels, 0 below 1.
 abbrev two-levels : List ℕ
 two-levels = 2 ∷ 0 ∷ 1 ∷ 1 ∷ 1 ∷ []
-
-abbrev work : List ℕ
-work = replicate least-cells 7
 
 -- A run's ending and its value.
 abbrev run-of : List ℕ → List ℕ → List ℕ

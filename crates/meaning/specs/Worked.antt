@@ -7,23 +7,23 @@ use Rattle.meaning.specs.Limits.{least-cells, most-steps}
 use Rattle.meaning.specs.Answers.{runAnswer, checkAnswer, findAnswer, levelAnswer, listing}
 
 -- The books.
-abbrev A : List ℕ
+abbrev pub A : List ℕ
 A = 0x01 ∷ 0x07 ∷ 0x00 ∷ 0x03 ∷ 0x00 ∷ 0x01 ∷ 0x00 ∷ 0x04 ∷ 0x11 ∷ 0x00 ∷ []
 
 -- A book of one procedure: its bytes of body, parameters, locals and body.
 abbrev one : ℕ → ℕ → ℕ → List ℕ → List ℕ
 one bytes parameters locals text = 0x01 ∷ 0x07 ∷ 0x00 ∷ bytes ∷ 0x00 ∷ parameters ∷ locals ∷ text
 
-abbrev B : List ℕ
+abbrev pub B : List ℕ
 B = one 5 1 0 (0x04 ∷ 0x13 ∷ 0x00 ∷ 0x11 ∷ 0x00 ∷ [])
 
-abbrev C : List ℕ
+abbrev pub C : List ℕ
 C =
     one 15 1 1
     (0x02 ∷ 0x11 ∷ 0x00 ∷ 0x01 ∷ 0x01 ∷ 0x10 ∷ 0x01 ∷ 0x00 ∷ 0x00 ∷ 0x00 ∷ 0x00 ∷ 0x00 ∷ 0x04 ∷ 0x11 ∷ 0x01 ∷ [])
 
 -- while c: a := b; b := h; c := c - 1; return a.
-abbrev D : List ℕ
+abbrev pub D : List ℕ
 D =
     one 26 3 1
     (0x03 ∷ 0x11 ∷ 0x00
@@ -33,13 +33,13 @@ D =
     ∷ 0x00
     ∷ 0x04 ∷ 0x11 ∷ 0x03 ∷ [])
 
-abbrev E : List ℕ
+abbrev pub E : List ℕ
 E = one 7 1 0 (0x04 ∷ 0x12 ∷ 0x01 ∷ 0x11 ∷ 0x00 ∷ 0x11 ∷ 0x00 ∷ [])
 
-abbrev F : List ℕ
+abbrev pub F : List ℕ
 F = one 10 1 0 (0x01 ∷ 0x00 ∷ 0x10 ∷ 0x00 ∷ 0x00 ∷ 0x00 ∷ 0x00 ∷ 0x04 ∷ 0x11 ∷ 0x00 ∷ [])
 
-abbrev M : List ℕ
+abbrev pub M : List ℕ
 M =
     (0x02 ∷ 0x0D ∷ 0x00 ∷ 0x23 ∷ 0x00 ∷ 0x02 ∷ 0x00 ∷ 0x30 ∷ 0x00 ∷ 0x19 ∷ 0x00 ∷ 0x01 ∷ 0x00 ∷ [])
     ++ ((0x03 ∷ 0x11 ∷ 0x00 ∷ 0x01 ∷ 0x01 ∷ 0x12 ∷ 0x00 ∷ 0x11 ∷ 0x00 ∷ 0x10 ∷ 0x01 ∷ 0x00 ∷ 0x00 ∷ 0x00
@@ -58,7 +58,7 @@ pub data Question : Type 0 where
   level-of : List ℕ → List ℕ → List ℕ → List ℕ → Question
   listed : List ℕ → Question
 
-abbrev work : List ℕ
+abbrev pub work : List ℕ
 work = replicate least-cells 7
 
 -- The numbers that the entry's definition gives: the refusal first, then those that document 01 names.
