@@ -25,3 +25,4 @@ pub mod Weights
 pub mod Rounds
 pub mod Demands
 pub mod Finder
+pub mod Lowest

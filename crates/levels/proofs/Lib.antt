@@ -1,0 +1,4 @@
+pub mod Laws
+pub mod Tests
+pub mod Upto
+pub mod Found
