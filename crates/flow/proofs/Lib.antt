@@ -1,0 +1,14 @@
+pub mod Fill
+pub mod Rows
+pub mod Gather
+pub mod Exprs
+pub mod Raise
+pub mod Cmds
+pub mod Runs
+pub mod Closings
+pub mod Names
+pub mod Bodies
+pub mod Passes
+pub mod Copies
+pub mod Settles
+pub mod Answers

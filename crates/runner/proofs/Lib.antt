@@ -1,0 +1,12 @@
+pub mod Operations
+pub mod Rows
+pub mod Heads
+pub mod Frames
+pub mod Outcomes
+pub mod Fall
+pub mod Exprs
+pub mod Calls
+pub mod Commands
+pub mod Sequences
+pub mod Closings
+pub mod Turns

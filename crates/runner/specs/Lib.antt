@@ -1,0 +1,5 @@
+pub mod Outcome
+pub mod Operating
+pub mod Opened
+pub mod Skipping
+pub mod Parts
