@@ -1,0 +1,97 @@
+//! What the makers of random material say of it is so.
+
+use cases::books::{deep, with_loops, Plan, MOST_BYTES, MOST_DEPTH, MOST_LOOPS};
+use cases::damage::damage;
+use cases::random::Random;
+use cases::{tables, Answer, Entries, PlainEntries};
+
+#[test]
+fn random_numbers_depend_on_the_seed_alone() {
+    // Fixed here: whoever changes them changes what a seed on record means.
+    let mut random = Random::for_case(1, 0);
+    assert_eq!([(); 3].map(|()| random.number()), NUMBERS);
+    assert_ne!(Random::for_case(1, 1).number(), NUMBERS[0]);
+    assert_ne!(Random::for_case(2, 0).number(), NUMBERS[0]);
+}
+const NUMBERS: [u64; 3] = [6954377618861975509, 16838045124790788659, 432047684551321273];
+
+#[test]
+fn grown_books_are_readable() {
+    for case in 0..3_000 {
+        let random = &mut Random::for_case(11, case);
+        let grown = Plan::random(random).grow(random);
+        let size = grown.summary_size() as u64;
+        assert_eq!(PlainEntries.read(&grown.bytes), Answer::given(&[size]), "case {case}");
+        for mark in &grown.marks {
+            assert!(mark.place < grown.bytes.len());
+        }
+    }
+}
+
+#[test]
+fn largest_books_are_the_largest() {
+    for case in 0..40 {
+        let random = &mut Random::for_case(12, case);
+        let plan = Plan {
+            procedures: random.between(1, 32),
+            body_bytes: random.between(0, MOST_BYTES),
+            loops: MOST_LOOPS,
+            largest: true,
+            no_recursion: false,
+            nesting: 50,
+        };
+        let grown = plan.grow(random);
+        assert_eq!(grown.bytes.len(), MOST_BYTES);
+        assert_eq!(PlainEntries.read(&grown.bytes).refusal, 0);
+    }
+}
+
+#[test]
+fn deep_books_have_their_depth() {
+    for case in 0..2_000 {
+        let random = &mut Random::for_case(13, case);
+        let depth = random.between(3, 30);
+        let refusal = if depth <= MOST_DEPTH { 0 } else { 3 };
+        assert_eq!(PlainEntries.read(&deep(random, depth)).refusal, refusal, "depth {depth}");
+    }
+}
+
+#[test]
+fn books_with_loops_have_so_many() {
+    for loops in 0..140 {
+        let random = &mut Random::for_case(14, loops as u64);
+        let refusal = if loops <= MOST_LOOPS { 0 } else { 4 };
+        assert_eq!(PlainEntries.read(&with_loops(random, loops)).refusal, refusal, "{loops} loops");
+    }
+}
+
+#[test]
+fn damage_takes_any_book() {
+    let mut still_readable = 0;
+    for case in 0..5_000 {
+        let random = &mut Random::for_case(15, case);
+        let grown = Plan::random(random).grow(random);
+        let damaged = damage(random, &grown);
+        still_readable += usize::from(PlainEntries.read(&damaged).refusal == 0);
+    }
+    assert!((100..2_000).contains(&still_readable), "{still_readable} of 5,000 are readable");
+}
+
+#[test]
+fn valid_tables_are_valid() {
+    let book = cases::worked::book_a();
+    let mut bottoms = [0; 16];
+    let mut still_valid = 0;
+    for case in 0..4_000 {
+        let random = &mut Random::for_case(16, case);
+        let table = tables::valid(random);
+        // An accepted summary that names nothing reports bottom; book F's result is empty.
+        let answer = PlainEntries.level(&cases::worked::book_f(), &table, 0, &[0], &[0]);
+        assert_eq!(answer.refusal, 0, "{table:?}");
+        bottoms[answer.fields[0] as usize] += 1;
+        let damaged = tables::damaged(random);
+        still_valid += usize::from(PlainEntries.level(&book, &damaged, 0, &[0], &[1]).refusal == 0);
+    }
+    assert!(bottoms.iter().all(|&count| count > 0), "any level may be bottom: {bottoms:?}");
+    assert!((100..2_000).contains(&still_valid), "{still_valid} of 4,000 damaged are valid");
+}
