@@ -1,1 +1,7 @@
 pub mod Numbers
+pub mod Taken
+pub mod Parts
+pub mod Contents
+pub mod Counted
+pub mod Verdict
+pub mod Reads

@@ -19,7 +19,7 @@ use Rattle.meaning.proofs.Places.{laid}
 use Rattle.meaning.proofs.Demands.{meets-round}
 use Rattle.book.proofs.Readable.{BookHere}
 use Rattle.flow.specs.Copies.{Copied, Same}
-use Rattle.flow.specs.Rounds.{RoundPre, RoundPost, SettlePre, SettlePost, SatisfiedPost}
+use Rattle.flow.specs.Rounds.{RoundPre, RoundPost, SettlePre, SettlePost, SatisfiedPost, Refused}
 use Rattle.flow.proofs.Settles.{size-is}
 
 -- A book that the reader does not refuse is readable.
@@ -75,9 +75,19 @@ satisfied-same {b} {σ} {new} {r} {t} c z e d =
     met g (inr p) (inl m) = absurd (d .unequal p (sym (meets-round (laid b (g .is)) σ (size-is c g) .0 m) ∙ sym (z .added g)))
     met g (inr p) (inr m) = p ∙ sym m
 
-pub find-refused : (b buffer : List ℕ) {r : ℕ} → r ≡ (readAnswer b) .refusal → (r ≡ 0 → ⊥) → FindsIn b buffer r 0 0 buffer
+-- A refusal by another number changes nothing else.
+refused-as : {b buffer : List ℕ} {k r s n : ℕ} {after : List ℕ} → Refused k buffer r s n after → FindsIn b buffer k 0 0 buffer → FindsIn b buffer r s n after
+refused-as x f =
+    record {
+      refusal-is = x .refusal-is ∙ f .refusal-is;
+      size-is = x .size-is ∙ f .size-is;
+      rounds-is = x .rounds-is ∙ f .rounds-is;
+      buffer-is = x .buffer-is ∙ f .buffer-is;
+    }
+
+not-readable : (b buffer : List ℕ) {r : ℕ} → r ≡ (readAnswer b) .refusal → (r ≡ 0 → ⊥) → FindsIn b buffer r 0 0 buffer
 unfolding readAnswer findAnswer noFind
-find-refused b buffer {r} h n = go (read b) refl
+not-readable b buffer {r} h n = go (read b) refl
   where
     go : (x : Reading) → read b ≡ x → FindsIn b buffer r 0 0 buffer
     go (refused f) e =
@@ -89,9 +99,12 @@ find-refused b buffer {r} h n = go (read b) refl
         }
     go (readable q) e = absurd (n (h ∙ rw (e, readAnswer)))
 
-pub find-short : {b buffer : List ℕ} (g : BookHere b) → length buffer < size (g .book) → FindsIn b buffer 8 0 0 buffer
+pub find-refused : {b buffer after : List ℕ} {k r s n : ℕ} → k ≡ (readAnswer b) .refusal → (k ≡ 0 → ⊥) → Refused k buffer r s n after → FindsIn b buffer r s n after
+find-refused {b} {buffer} h n x = refused-as x (not-readable b buffer h n)
+
+short : {b buffer : List ℕ} (g : BookHere b) → length buffer < size (g .book) → FindsIn b buffer 8 0 0 buffer
 unfolding findAnswer findBook noFind
-find-short {b} {buffer} g h =
+short {b} {buffer} g h =
     let k = lt-leb (size (g .book)) (length buffer) h in
     record {
       refusal-is = rw (g .is, findAnswer, k, findBook);
@@ -99,6 +112,9 @@ find-short {b} {buffer} g h =
       rounds-is = rw (g .is, findAnswer, k, findBook);
       buffer-is = rw (g .is, findAnswer, k, findBook);
     }
+
+pub find-short : {b buffer after : List ℕ} {r s n : ℕ} (g : BookHere b) → length buffer < size (g .book) → Refused 8 buffer r s n after → FindsIn b buffer r s n after
+find-short g h x = refused-as x (short g h)
 
 pub find-found : {b buffer σ after : List ℕ} {s n : ℕ} (g : BookHere b) → s ≡ size (g .book) → s ≤ length buffer → SettlePost b σ n → after ≡ σ ++ drop s buffer →
     FindsIn b buffer 0 s n after

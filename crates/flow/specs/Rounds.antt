@@ -59,3 +59,9 @@ pub record SettlePost (b σ : List ℕ) (n : ℕ) : Type 0 where
 
 pub record SatisfiedPost (b σ : List ℕ) (r : Bool) : Type 0 where
   pub is : (g : BookHere b) → r ≡ satisfies (g .book) σ
+
+pub record Refused (number : ℕ) (buffer : List ℕ) (refusal size rounds : ℕ) (after : List ℕ) : Type 0 where
+  pub refusal-is : refusal ≡ number
+  pub size-is : size ≡ 0
+  pub rounds-is : rounds ≡ 0
+  pub buffer-is : after ≡ buffer

@@ -5,8 +5,8 @@ use Prim.Native.Nat.{ℕ, zero, suc, _+_, _-_, _*_, _≤_, _<_, min}
 use native.Mathlib.Omega.{arith}
 use borrow.Author.Fill.{fill-more}
 use native.Mathlib.Numerals.{add-one}
-use lib.ListN.{length, getD, take, drop, set, replicate, length-append, length-take, length-drop, length-set, length-replicate, getD-replicate, List·getD-append}
-use lib.Seq.{take-suc, take-suc-set, take-all, drop-length, getD-take, getD-append-add}
+use lib.ListN.{length, getD, take, drop, set, replicate, length-append, length-take, length-drop, length-set, length-replicate, drop-of-length-le, getD-replicate, List·getD-append}
+use lib.Seq.{take-suc, take-suc-set, take-all, getD-take, getD-append-add}
 
 -- Parameters, then locals.
 abbrev pub starting : List ℕ → ℕ → ℕ → List ℕ
@@ -73,7 +73,28 @@ module _ {w₀ w : List ℕ} {i : ℕ} where
         zeros = ap (λ (l : List ℕ). set l i 0) (s .zeros) ∙ fill-more i 0 w₀ h;
       }
 
-  pub clear-whole : Clearing w₀ w i → length w ≤ i → w ≡ replicate (length w₀) 0
+  pub clear-whole : Clearing w₀ w i → length w ≤ i → w ≡ replicate (length w) 0
   clear-whole s k =
-      let p : i ≡ length w₀ = omega (arith, s .long, s .some) in
-      s .zeros ∙ rw (p, drop-length w₀) (append-nil (replicate (length w₀) 0))
+      let p : i ≡ length w = omega (arith, s .long, s .some) in
+      let e : drop i w₀ ≡ [] = drop-of-length-le w₀ {i = i} (omega (arith, s .long)) in
+      s .zeros ∙ rw (e, append-nil) (ap (λ (n : ℕ). replicate {A = ℕ} n 0) p)
+
+-- Inputs gathered from the front.
+pub record Taking (inputs given : List ℕ) (i : ℕ) : Type 0 where
+  pub eight : length given ≡ 8
+  pub some : i ≤ length inputs
+  pub same : take i given ≡ take i inputs
+
+module _ {inputs given : List ℕ} {i : ℕ} where
+  pub take-more : Taking inputs given i → length inputs ≤ 8 → i < length inputs → Taking inputs (set given i (getD inputs i 0)) (i + 1)
+  take-more s h k =
+      record {
+        eight = length-set given i (getD inputs i 0) ∙ s .eight;
+        some = omega arith;
+        same = rw (add-one i, take-suc-set given i (getD inputs i 0) (omega (arith, s .eight)), take-suc inputs i 0 k, s .same);
+      }
+
+  pub take-whole : Taking inputs given i → length inputs ≤ i → take (length inputs) given ≡ inputs
+  take-whole s k =
+      let e : length inputs ≡ i = omega (arith, s .some) in
+      rw e (s .same ∙ take-all i inputs k)

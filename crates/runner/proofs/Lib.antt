@@ -10,3 +10,4 @@ pub mod Commands
 pub mod Sequences
 pub mod Closings
 pub mod Turns
+pub mod Answers

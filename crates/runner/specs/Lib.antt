@@ -3,3 +3,4 @@ pub mod Operating
 pub mod Opened
 pub mod Skipping
 pub mod Parts
+pub mod Answering

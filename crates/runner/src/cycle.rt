@@ -310,24 +310,24 @@ fn turns(book: &[u8], at: usize, n: usize, d: u32, left: u64, work: &mut [u32]) 
 {
     let mut left = left;
     while left != 0 {
-        let a = eval(book, at + 1, n, d, left - 1, work);
-        if a.ending != 0 {
-            return a;
+        let test = eval(book, at + 1, n, d, left - 1, work);
+        if test.ending != 0 {
+            return test;
         }
-        let inside = a.next;
-        if a.value == 0 {
+        let inside = test.next;
+        if test.value == 0 {
             return Part {
                 ending: 0,
                 value: 0,
-                left: a.left,
+                left: test.left,
                 next: runs(book, inside, 1),
             };
         }
-        let s = seq(book, inside, n, d, a.left, work);
-        if s.ending != 0 {
-            return s;
+        let body = seq(book, inside, n, d, test.left, work);
+        if body.ending != 0 {
+            return body;
         }
-        left = s.left;
+        left = body.left;
     }
     Part {
         ending: 2,

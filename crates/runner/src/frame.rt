@@ -18,11 +18,25 @@ pub fn set_up(given: [u32; 8], parameters: usize, locals: usize, work: &mut [u32
 }
 
 pub fn clear(work: &mut [u32])
-    ensures { λ _. ⌜ now (work .exit) ≡ replicate (length (now (work .entry))) 0 ⌝ }
+    ensures { λ _. ⌜ now (work .exit) ≡ replicate (length (now (work .exit))) 0 ⌝ }
 {
     let mut i = 0;
     while i < work.len() {
         work[i] = 0;
         i += 1;
     }
+}
+
+// The inputs, gathered as a call's values are.
+pub fn gather(inputs: &[u32]) -> [u32; 8]
+    requires { ⌜ length (now inputs) ≤ 8 ⌝ }
+    ensures { λ r. ⌜ take (length (now (inputs .entry))) r ≡ now (inputs .entry) ⌝ }
+{
+    let mut given = [0u32; 8];
+    let mut i = 0;
+    while i < inputs.len() {
+        given[i] = inputs[i];
+        i += 1;
+    }
+    given
 }
