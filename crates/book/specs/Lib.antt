@@ -4,4 +4,3 @@ pub mod Parts
 pub mod Contents
 pub mod Counted
 pub mod Verdict
-pub mod Reads

@@ -10,7 +10,7 @@ pub mod verdict;
 
 use crate::verdict::Verdict;
 use crate::verdict::judge;
-ghost use Rattle.book.specs.Reads.{Reads};
+ghost use Rattle.meaning.specs.Contracts.{Reads};
 
 // The refusal, 0 where there is none, and the size of the book's summary.
 pub struct ReadAnswer {

@@ -1,16 +1,15 @@
 -- What the checker and the finder answer, way by way through their tests.
-use mathlib.Core.Path.{_≡_, refl, sym, ap, _∙_}
+use mathlib.Core.Path.{_≡_, refl, sym, _∙_}
 use mathlib.Core.Logic.{_⊎_, inl, inr}
 use mathlib.Core.Bool.{Bool, true, false, _&&_}
 use mathlib.Core.List.{List, _++_}
 use Prim.Native.Nat.{ℕ, _≤_, _<_}
 use native.Mathlib.Omega.{arith}
 use borrow.Author.Tests.{eq-eqb, ne-eqb, le-leb, lt-leb}
-use lib.Dec.{eqb, leb}
 use lib.ListN.{length, drop, take}
 use lib.Seq.{take-at}
 use Rattle.meaning.specs.Reading.{Reading, refused, readable, read}
-use Rattle.meaning.specs.Flow.{satisfies, meets, demands, legal, size, find}
+use Rattle.meaning.specs.Flow.{satisfies, meets, demands, size}
 use Rattle.meaning.specs.Answers.{readAnswer, checkAnswer, checkBook, findAnswer, findBook, noFind}
 use Rattle.meaning.specs.Contracts.{Checks, FindsIn}
 use Rattle.meaning.proofs.Lists.{holds-or-fails}
@@ -18,8 +17,8 @@ use Rattle.meaning.proofs.Readable.{refused-number}
 use Rattle.meaning.proofs.Places.{laid}
 use Rattle.meaning.proofs.Demands.{meets-round}
 use Rattle.book.proofs.Readable.{BookHere}
-use Rattle.flow.specs.Copies.{Copied, Same}
-use Rattle.flow.specs.Rounds.{RoundPre, RoundPost, SettlePre, SettlePost, SatisfiedPost, Refused}
+use Rattle.flow.specs.Copies.{Same}
+use Rattle.flow.specs.Rounds.{RoundPost, SettlePre, SettlePost, SatisfiedPost, Refused}
 use Rattle.flow.proofs.Settles.{size-is}
 
 -- A book that the reader does not refuse is readable.

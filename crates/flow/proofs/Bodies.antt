@@ -1,25 +1,25 @@
 -- The walk of one procedure's body, from the book's contents.
-use mathlib.Core.Path.{_≡_, refl, sym, ap, ap₂, subst, _∙_}
+use mathlib.Core.Path.{_≡_, sym, ap, ap₂, _∙_}
 use mathlib.Core.List.{List, [], _∷_, _++_, map}
-use mathlib.Core.Option.{some, none}
+use mathlib.Core.Option.{some}
 use Prim.Native.Nat.{ℕ, zero, suc, _+_, _*_, _-_, _≤_, _<_}
 use native.Mathlib.Nat.{add-assoc, zero-add}
 use native.Mathlib.Omega.{arith}
 use lib.ListN.{length, getD, take, replicate, getElem?, length-append, length-map, length-replicate, replicate-append-replicate, List·getD-append, getD-replicate}
 use lib.Seq.{take-append-add, take-at, getD-append-add}
-use Rattle.meaning.specs.Limits.{most-parameters, most-locals}
+use Rattle.meaning.specs.Limits.{most-parameters}
 use Rattle.meaning.specs.Lists.{each}
 use Rattle.meaning.specs.Sets.{empty, single}
 use Rattle.meaning.specs.Tree.{Closing, Procedure, Book, variables, loopsOf}
-use Rattle.meaning.specs.Reading.{entry, entries, arities, procedures}
+use Rattle.meaning.specs.Reading.{entry, procedures}
 use Rattle.meaning.specs.Flow.{bySets, startSets, ends as returned, grow, size, limits, rowLimits}
 use Rattle.meaning.proofs.Lists.{length-each}
 use Rattle.meaning.proofs.Places.{result-place}
 use Rattle.book.proofs.Text.{ClosingHere}
-use Rattle.book.proofs.Readable.{BookHere, BookFacts, ProcedureView, rowOf, scopeOf}
+use Rattle.book.proofs.Readable.{BookHere, rowOf}
 use Rattle.book.proofs.Sound.{book-facts, procedure-view}
 use Rattle.flow.specs.Rows.{most-variables, Wide}
-use Rattle.flow.specs.Walks.{within, Contents, Ready, ClosingPre, ClosingPost}
+use Rattle.flow.specs.Walks.{within, Contents, ClosingPre, ClosingPost}
 use Rattle.flow.specs.Rounds.{RoundPre, BodyPre, BodyPost}
 
 -- The first of a list of equal things.

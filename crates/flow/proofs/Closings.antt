@@ -1,20 +1,20 @@
 -- What a closing sequence adds to the summary, form by form, and a loop over its ordinary commands.
 use mathlib.Core.Path.{_≡_, refl, sym, ap, ap₂, subst, _∙_}
-use mathlib.Core.List.{List, [], _∷_, _++_}
-use Prim.Native.Nat.{ℕ, zero, suc, _+_, _*_, _-_, _≤_, _<_}
+use mathlib.Core.List.{List}
+use Prim.Native.Nat.{ℕ, _+_, _*_, _≤_, _<_}
 use native.Mathlib.Nat.{mul-zero, add-zero}
 use native.Mathlib.Omega.{arith}
 use lib.ListN.{length, getD, set, take}
 use Rattle.meaning.specs.Tree.{loops, loopsOf}
 use Rattle.meaning.specs.Reading.{Scope}
 use Rattle.meaning.specs.Sets.{empty, union}
-use Rattle.meaning.specs.Flow.{Need, bySets, flow, after, needs, ends as returned, grow, at}
+use Rattle.meaning.specs.Flow.{bySets, after, needs, ends as returned, grow, at}
 use Rattle.meaning.proofs.Needs.{grow-append, length-grow}
-use Rattle.book.proofs.Text.{CmdHere, ClosingHere, ClosingAt}
+use Rattle.book.proofs.Text.{ClosingHere}
 use Rattle.book.proofs.Views.{closing-code, give-view, pick-view, first-view}
 use Rattle.book.proofs.Views.Bounds.{closing-spans}
 use Rattle.flow.specs.Rows.{Wide}
-use Rattle.flow.specs.Walks.{within, ExprPre, ExprPost, Ready, CmdPre, CmdPost, ClosingPre, ClosingCodedPre, ClosingPost}
+use Rattle.flow.specs.Walks.{within, ExprPre, ExprPost, CmdPre, CmdPost, ClosingPre, ClosingCodedPre, ClosingPost}
 use Rattle.flow.proofs.Cmds.{rows-both, ready-on}
 
 abbrev pub closingMoved : {b : List ℕ} {v : Scope} {r q i j : ℕ} → r ≡ q → i ≡ j → ClosingHere b v q j → ClosingHere b v r i

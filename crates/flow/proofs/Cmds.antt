@@ -1,23 +1,22 @@
 -- What an ordinary command does to the sets and adds to the summary, form by form: what the walk of its parts gives is what the rules give.
 use mathlib.Core.Path.{_≡_, refl, sym, ap, ap₂, subst, _∙_}
-use mathlib.Core.List.{List, [], _∷_, _++_}
-use Prim.Native.Nat.{ℕ, zero, suc, _+_, _*_, _-_, _≤_, _<_}
+use mathlib.Core.List.{List, [], _++_}
+use Prim.Native.Nat.{ℕ, _+_, _*_, _≤_, _<_}
 use native.Mathlib.Nat.{mul-add, mul-one, mul-zero, add-zero, add-assoc}
 use native.Mathlib.Omega.{arith}
 use lib.ListN.{length, getD, set, take, length-set}
 use lib.Seq.{take-set-lt}
-use Rattle.meaning.specs.Tree.{Cmd, Run, assign, branch, loop, stop, then, loops, loopsIn}
+use Rattle.meaning.specs.Tree.{loops, loopsIn}
 use Rattle.meaning.specs.Reading.{Scope}
-use Rattle.meaning.specs.Sets.{empty, union}
-use Rattle.meaning.specs.Flow.{Need, bySets, flow, after, afters, needs, needsIn, arriving, row, joined, grow}
+use Rattle.meaning.specs.Sets.{union}
+use Rattle.meaning.specs.Flow.{Need, bySets, flow, after, needs, needsIn, arriving, joined, grow}
 use Rattle.meaning.proofs.Needs.{grow-append, length-grow}
-use Rattle.book.proofs.Text.{ExprHere, CmdHere, RunHere, CmdAt, RunAt}
-use Rattle.book.proofs.Views.{cmd-code, assign-view, branch-view, loop-view, run-code, stop-view, then-view}
-use Rattle.book.proofs.Views.Bounds.{expr-spans, cmd-spans, run-spans}
+use Rattle.book.proofs.Text.{CmdHere, RunHere}
+use Rattle.book.proofs.Views.{cmd-code, assign-view, branch-view, loop-view}
+use Rattle.book.proofs.Views.Bounds.{cmd-spans}
 use Rattle.flow.specs.Rows.{most-variables, Wide, Held}
-use Rattle.flow.specs.Walks.{within, Contents, ExprPre, ExprPost, Ready, Raised, CmdPre, CmdCodedPre, CmdPost, RunPre, RunPost}
+use Rattle.flow.specs.Walks.{within, ExprPre, ExprPost, Ready, Raised, CmdPre, CmdCodedPre, CmdPost, RunPre, RunPost}
 use Rattle.flow.proofs.Rows.{length-joined, take-joined}
-use Rattle.flow.proofs.Exprs.{exprMoved}
 
 abbrev pub cmdMoved : {b : List ℕ} {v : Scope} {r q i j : ℕ} → r ≡ q → i ≡ j → CmdHere b v q j → CmdHere b v r i
 cmdMoved {b} {v} d e x = record { tree = x .tree; next = x .next; is = rw (d, e) (x .is) }

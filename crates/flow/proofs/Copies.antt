@@ -1,11 +1,11 @@
 -- Loops that copy, compare and clear a summary.
-use mathlib.Core.Path.{_≡_, refl, sym, ap, _∙_}
-use mathlib.Core.Bool.{Bool, true, false}
+use mathlib.Core.Path.{_≡_, sym, ap, _∙_}
+use mathlib.Core.Bool.{true, false}
 use mathlib.Core.List.{List}
-use Prim.Native.Nat.{ℕ, zero, suc, _+_, _≤_, _<_}
+use Prim.Native.Nat.{ℕ, _+_, _≤_, _<_}
 use native.Mathlib.Omega.{arith}
 use native.Mathlib.Decide.{ℕ-discrete}
-use lib.ListN.{length, getD, set, take, replicate, length-replicate, getD-replicate}
+use lib.ListN.{length, getD, set, replicate, length-replicate, getD-replicate}
 use lib.Seq.{ext-getD}
 use Rattle.flow.specs.Copies.{most-places, Copied, Same}
 use Rattle.flow.proofs.Fill.{Filling, filling-more, filling-length, filling-front, filling-whole}

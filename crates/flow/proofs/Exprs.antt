@@ -1,21 +1,20 @@
 -- The set of an expression, form by form: what the walk of its parts gives is what the rules give.
-use mathlib.Core.Path.{_≡_, refl, sym, ap, ap₂, subst, subst₂, _∙_}
-use mathlib.Core.List.{List, [], _∷_, _++_, append-nil, append-assoc}
-use Prim.Native.Nat.{ℕ, zero, suc, _+_, _*_, _-_, _≤_, _<_}
+use mathlib.Core.Path.{_≡_, refl, sym, ap, ap₂, _∙_}
+use mathlib.Core.List.{List, _∷_, _++_, append-nil}
+use Prim.Native.Nat.{ℕ, _+_, _*_, _-_, _≤_, _<_}
 use native.Mathlib.Omega.{arith}
 use native.Mathlib.Numerals.{add-one}
 use lib.ListN.{length, getD, set, take, length-set}
 use lib.Seq.{getD-take, take-suc-set, append-snoc}
 use Rattle.meaning.specs.Limits.{most-parameters}
-use Rattle.meaning.specs.Tree.{constant, variable, operation, call, nil, arg}
 use Rattle.meaning.specs.Reading.{Scope, arities, entries, entry}
 use Rattle.meaning.specs.Sets.{empty, union, gather}
 use Rattle.meaning.specs.Flow.{bySets, flow, flows, at}
-use Rattle.book.proofs.Text.{ExprAt, ArgsAt, ExprHere, ArgsHere}
+use Rattle.book.proofs.Text.{ExprHere, ArgsHere}
 use Rattle.book.proofs.Views.{expr-code, constant-view, variable-view, operation-view, call-view, no-args-view, args-view}
-use Rattle.book.proofs.Views.Bounds.{expr-spans, args-spans}
+use Rattle.book.proofs.Views.Bounds.{expr-spans}
 use Rattle.flow.specs.Rows.{most-variables}
-use Rattle.flow.specs.Walks.{within, procedureCount, Contents, ExprPre, CodedPre, ExprPost, ArgsPre, ArgsPost}
+use Rattle.flow.specs.Walks.{within, Contents, ExprPre, CodedPre, ExprPost, ArgsPre, ArgsPost}
 
 -- The same tree, where its place is told otherwise.
 abbrev pub exprMoved : {b : List ℕ} {v : Scope} {i j : ℕ} → i ≡ j → ExprHere b v j → ExprHere b v i

@@ -1,7 +1,7 @@
 -- A loop over the procedures of a book: what is walked so far, and what is left.
-use mathlib.Core.Path.{_≡_, refl, sym, ap, ap₂, subst, _∙_}
+use mathlib.Core.Path.{_≡_, refl, sym, ap, ap₂, _∙_}
 use mathlib.Core.Bool.{Bool, true, false, _&&_, and-assoc}
-use mathlib.Core.List.{List, [], _∷_, _++_}
+use mathlib.Core.List.{List, [], _∷_}
 use mathlib.Core.Option.{some}
 use Prim.Native.Nat.{ℕ, zero, suc, _+_, _*_, _-_, _≤_, _<_}
 use native.Mathlib.Nat.{add-zero, add-suc}
@@ -9,13 +9,12 @@ use native.Mathlib.Numerals.{add-one}
 use native.Mathlib.Omega.{arith}
 use lib.ListN.{length, getD, drop, getElem?}
 use lib.Seq.{drop-length}
-use Rattle.meaning.specs.Limits.{most-parameters}
 use Rattle.meaning.specs.Lists.{every}
 use Rattle.meaning.specs.Sets.{empty, inside, upto}
 use Rattle.meaning.specs.Tree.{Procedure, Book, variables, loopsOf}
 use Rattle.meaning.specs.Reading.{entry, procedures}
 use Rattle.meaning.specs.Flow.{bySets, startSets, ends as returned, demandsFrom, demands, legal, grow, size, limits, at}
-use Rattle.meaning.proofs.Needs.{grow-append, length-grow}
+use Rattle.meaning.proofs.Needs.{grow-append}
 use Rattle.meaning.proofs.Places.{result-place, result-limit}
 use Rattle.book.proofs.Readable.{BookHere, rowOf}
 use Rattle.book.proofs.Sound.{book-facts, procedure-view}

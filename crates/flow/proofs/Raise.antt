@@ -1,14 +1,14 @@
 -- A loop that adds each variable's set to a row of the summary.
 use mathlib.Core.Path.{_≡_, refl, sym, ap, _∙_}
 use mathlib.Core.List.{List, [], _∷_, _++_}
-use Prim.Native.Nat.{ℕ, zero, suc, _+_, _≤_, _<_}
+use Prim.Native.Nat.{ℕ, _+_, _≤_, _<_}
 use native.Mathlib.Omega.{arith}
 use native.Mathlib.Numerals.{add-one}
 use lib.ListN.{length, getD, set, take}
 use lib.Seq.{getD-take}
 use Rattle.meaning.specs.Lists.{each}
 use Rattle.meaning.specs.Sets.{empty, union}
-use Rattle.meaning.specs.Flow.{Need, bySets, arriving, grow, at}
+use Rattle.meaning.specs.Flow.{Need, arriving, grow, at}
 use Rattle.meaning.proofs.Needs.{grow-append, length-grow}
 use Rattle.flow.specs.Walks.{Raised}
 

@@ -3,7 +3,6 @@ use mathlib.Core.Path.{_≡_, refl, sym, ap, _∙_}
 use mathlib.Core.List.{List, [], _∷_, _++_}
 use Prim.Native.Nat.{ℕ, zero, suc, _+_, _-_, _≤_, _<_}
 use native.Mathlib.Omega.{arith}
-use native.Mathlib.Numerals.{add-one}
 use lib.ListN.{length, getD, set, take, drop, replicate, length-replicate, replicate-append-replicate}
 use lib.Seq.{drop-at}
 use lib.Bits.{bitOr}
@@ -13,7 +12,7 @@ use Rattle.meaning.specs.Flow.{joined, row, bySets, at}
 use Rattle.meaning.specs.Lists.{each}
 use Rattle.meaning.proofs.Lists.{length-each, getD-each}
 use Rattle.flow.specs.Rows.{most-variables, Wide, Held}
-use Rattle.flow.proofs.Fill.{Filling, filling-none, filling-more, filling-length, filling-ahead, filling-done, filling-front, filling-whole}
+use Rattle.flow.proofs.Fill.{Filling, filling-more, filling-length, filling-ahead, filling-done, filling-front, filling-whole}
 
 pub length-joined : (f : ℕ → ℕ → ℕ) (a b : List ℕ) → length a ≡ length b → length (joined f a b) ≡ length a
 unfolding joined

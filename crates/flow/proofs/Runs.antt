@@ -1,19 +1,19 @@
 -- A loop over the commands of a run.
-use mathlib.Core.Path.{_≡_, refl, sym, ap, ap₂, subst, _∙_}
-use mathlib.Core.List.{List, [], _∷_, _++_}
-use Prim.Native.Nat.{ℕ, zero, suc, _+_, _*_, _-_, _≤_, _<_}
-use native.Mathlib.Nat.{mul-add, mul-zero, add-zero, add-assoc}
+use mathlib.Core.Path.{_≡_, refl, sym, ap, ap₂, _∙_}
+use mathlib.Core.List.{List}
+use Prim.Native.Nat.{ℕ, _+_, _*_, _≤_, _<_}
+use native.Mathlib.Nat.{mul-zero, add-zero}
 use native.Mathlib.Omega.{arith}
 use lib.ListN.{length, getD, take}
 use Rattle.meaning.specs.Tree.{loops, loopsIn}
 use Rattle.meaning.specs.Flow.{bySets, after, afters, needs, needsIn, grow}
-use Rattle.meaning.proofs.Needs.{grow-append, length-grow}
-use Rattle.book.proofs.Text.{CmdHere, RunHere}
+use Rattle.meaning.proofs.Needs.{grow-append}
+use Rattle.book.proofs.Text.{RunHere}
 use Rattle.book.proofs.Views.{run-code, stop-view, then-view}
 use Rattle.book.proofs.Views.Bounds.{run-spans}
 use Rattle.flow.specs.Rows.{Wide}
-use Rattle.flow.specs.Walks.{within, Ready, CmdPre, CmdPost, RunPre, RunPost}
-use Rattle.flow.proofs.Cmds.{cmdMoved, runMoved, rows-both, ready-on}
+use Rattle.flow.specs.Walks.{within, CmdPre, CmdPost, RunPre, RunPost}
+use Rattle.flow.proofs.Cmds.{runMoved, rows-both, ready-on}
 
 -- The commands that are left do to the sets at hand and to the summary so far what the whole run does from the start.
 pub record RunLeft (b σ new : List ℕ) (r i w : ℕ) (bits : List ℕ) (g : ℕ) (new′ bits′ : List ℕ) (r′ i′ : ℕ) (x : RunHere b (within b w) r i) : Type 0 where

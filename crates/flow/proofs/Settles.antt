@@ -1,19 +1,17 @@
 -- A loop of rounds, up to the first that adds nothing.
-use mathlib.Core.Path.{_≡_, refl, sym, ap, _∙_}
+use mathlib.Core.Path.{_≡_, sym, ap, _∙_}
 use mathlib.Core.Logic.{_⊎_, inl, inr}
 use mathlib.Core.Bool.{Bool, true, false}
 use mathlib.Core.List.{List}
-use Prim.Native.Nat.{ℕ, zero, suc, _+_, _*_, _-_, _≤_, _<_}
+use Prim.Native.Nat.{ℕ, suc, _+_, _*_, _-_, _≤_, _<_}
 use native.Mathlib.Omega.{arith}
 use native.Mathlib.Numerals.{add-one}
 use lib.ListN.{length, take, replicate, length-replicate}
-use Rattle.meaning.specs.Limits.{most-parameters}
 use Rattle.meaning.specs.Sets.{empty}
-use Rattle.meaning.specs.Tree.{Book}
-use Rattle.meaning.specs.Flow.{Found, rounds, most-rounds, find, demands, meets, grow, size}
+use Rattle.meaning.specs.Flow.{rounds, most-rounds, find, demands, meets, grow, size}
 use Rattle.meaning.proofs.Lists.{holds-or-fails}
 use Rattle.meaning.proofs.Needs.{length-grow}
-use Rattle.meaning.proofs.Places.{Laid, laid}
+use Rattle.meaning.proofs.Places.{laid}
 use Rattle.meaning.proofs.Demands.{meets-round}
 use Rattle.meaning.proofs.Finder.{rounds-last, rounds-more}
 use Rattle.book.proofs.Readable.{BookHere}

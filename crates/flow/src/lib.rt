@@ -35,6 +35,19 @@ pub struct FindAnswer {
     pub rounds: usize,
 }
 
+impl FindAnswer {
+    // A refusal has every other field 0, and leaves the buffer as it was.
+    fn refused(refusal: u8, buffer: &mut [u8]) -> FindAnswer
+        ensures { λ r. ⌜ Refused refusal (now (buffer .entry)) (r .refusal) (r .size) (r .rounds) (now (buffer .exit)) ⌝ }
+    {
+        Self {
+            refusal,
+            size: 0,
+            rounds: 0,
+        }
+    }
+}
+
 // The finder: the least summary stands in the first `size` bytes of the buffer.
 pub fn find(book: &[u8], buffer: &mut [u8]) -> FindAnswer
     ensures { λ r. ⌜ FindsIn (now (book .entry)) (now (buffer .entry)) (r .refusal) (r .size) (r .rounds) (now (buffer .exit)) ⌝ }
@@ -43,26 +56,15 @@ pub fn find(book: &[u8], buffer: &mut [u8]) -> FindAnswer
     let size = answer.size;
     let room = buffer.len();
     if answer.refusal != 0 {
-        return refused(answer.refusal, buffer);
+        return FindAnswer::refused(answer.refusal, buffer);
     }
     if room < size {
-        return refused(8, buffer);
+        return FindAnswer::refused(8, buffer);
     }
     let rounds = settle(book, &mut buffer[..size]);
     FindAnswer {
         refusal: 0,
         size,
         rounds,
-    }
-}
-
-// A refusal has every other field 0, and leaves the buffer as it was.
-fn refused(refusal: u8, buffer: &mut [u8]) -> FindAnswer
-    ensures { λ r. ⌜ Refused refusal (now (buffer .entry)) (r .refusal) (r .size) (r .rounds) (now (buffer .exit)) ⌝ }
-{
-    FindAnswer {
-        refusal,
-        size: 0,
-        rounds: 0,
     }
 }

@@ -1,23 +1,20 @@
 -- The public answer, way by way.
 use mathlib.Core.Path.{_≡_, refl, sym, ap, _∙_}
-use mathlib.Core.Bool.{true, false}
 use mathlib.Core.List.{List, [], _∷_, _++_}
-use mathlib.Core.Option.{Option, some, none}
-use Prim.Native.Nat.{ℕ, zero, suc, _+_, _-_, _*_, _≤_, _<_}
+use mathlib.Core.Option.{none}
+use Prim.Native.Nat.{ℕ, zero, suc, _-_, _≤_, _<_}
 use native.Mathlib.Omega.{arith}
 use borrow.Author.Tests.{eq-eqb, ne-eqb, le-leb, lt-leb}
-use lib.ListN.{length, getD, take, drop, replicate, getElem?, length-take}
-use Rattle.meaning.specs.Limits.{most-calls, most-steps, least-cells}
-use Rattle.meaning.specs.Tree.{Procedure, Book}
+use lib.ListN.{length, take, drop, getElem?, length-take}
+use Rattle.meaning.specs.Limits.{most-steps, least-cells}
 use Rattle.meaning.specs.Reading.{Reading, refused, readable, entry, procedures, read}
-use Rattle.meaning.specs.Running.{Out, done, ended, out-of-steps, too-deep, yield, runs}
+use Rattle.meaning.specs.Running.{yield}
 use Rattle.meaning.specs.Answers.{Ran, RunAnswer, endingNumber, ran, runOf, noRun, cleared, runBook, readAnswer, runAnswer}
 use Rattle.meaning.specs.Contracts.{Runs}
-use Rattle.book.proofs.Readable.{BookHere, ProcedureView}
+use Rattle.book.proofs.Readable.{BookHere}
 use Rattle.book.proofs.Sound.{book-facts, procedure-view}
 use Rattle.runner.specs.Outcome.{endingOf, outcome}
 use Rattle.runner.specs.Opened.{Opened}
-use Rattle.runner.specs.Parts.{EnterPre, EnterPost}
 use Rattle.runner.specs.Answering.{RefusedPost, AnsweredPost, StartedPost}
 use Rattle.runner.specs.declared.cycle.Part.{Part}
 use Rattle.runner.specs.declared.RunAnswer.{RunAnswer as Answer}

@@ -2,21 +2,21 @@
 use mathlib.Core.Path.{_≡_, refl, sym, ap, _∙_}
 use mathlib.Core.List.{List, [], _∷_, _++_, append-nil, append-assoc}
 use mathlib.Core.Option.{some}
-use Prim.Native.Nat.{ℕ, zero, suc, _+_, _-_, _*_, _≤_, _<_}
+use Prim.Native.Nat.{ℕ, suc, _+_, _-_, _*_, _≤_, _<_}
 use native.Mathlib.Omega.{arith}
 use native.Mathlib.Numerals.{add-one}
 use lib.ListN.{length, getD, take, set, replicate, getElem?, length-set}
 use lib.Seq.{take-suc-set}
-use Rattle.meaning.specs.Tree.{Expr, Args, Procedure, Book, nil, arg, call}
-use Rattle.meaning.specs.Reading.{Scope, arities, entries, entry, procedures}
-use Rattle.meaning.specs.Running.{Out, yield, bind, tick, ended, too-deep, Callee, value, values, finish, start, runs}
-use Rattle.book.proofs.Text.{ExprHere, ArgsAt, ArgsHere}
+use Rattle.meaning.specs.Tree.{Args, Procedure, Book}
+use Rattle.meaning.specs.Reading.{Scope, arities, entries, entry}
+use Rattle.meaning.specs.Running.{Out, yield, bind, tick, ended, value, values, finish, start, runs}
+use Rattle.book.proofs.Text.{ArgsAt, ArgsHere}
 use Rattle.book.proofs.Views.{ArgsView, args-view, no-args-view, call-view}
-use Rattle.book.proofs.Views.Bounds.{expr-spans, args-spans}
+use Rattle.book.proofs.Views.Bounds.{expr-spans}
 use Rattle.book.proofs.Readable.{rowOf}
 use Rattle.runner.specs.Outcome.{endingOf, outcome}
 use Rattle.runner.specs.Opened.{Opened, bookOf, inScope}
-use Rattle.runner.specs.Parts.{EvalPre, FormPre, ArgsPre, EnterPre, ClosingPre, Did, EvalPost, DidAll, ArgsPost, ClosingPost, EnterPost}
+use Rattle.runner.specs.Parts.{EvalPre, FormPre, ArgsPre, EnterPre, ClosingPre, EvalPost, DidAll, ArgsPost, ClosingPost, EnterPost}
 use Rattle.runner.specs.declared.cycle.Part.{Part}
 use Rattle.runner.specs.declared.cycle.Gathered.{Gathered}
 use Rattle.runner.proofs.Heads.{Called, called}

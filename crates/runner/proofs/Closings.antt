@@ -1,5 +1,5 @@
 -- A closing sequence while it goes on.
-use mathlib.Core.Path.{_≡_, refl, sym, _∙_}
+use mathlib.Core.Path.{_≡_, refl, _∙_}
 use mathlib.Core.List.{List}
 use Prim.Native.Nat.{ℕ, suc, _+_, _-_, _*_, _≤_, _<_}
 use native.Mathlib.Omega.{arith}
@@ -7,8 +7,8 @@ use native.Mathlib.Decide.{ℕ-discrete}
 use lib.ListN.{length, getD, take}
 use Rattle.meaning.specs.Tree.{Closing, loops, loopsOf, first, give, pick}
 use Rattle.meaning.specs.Reading.{Scope}
-use Rattle.meaning.specs.Running.{Callee, bind, tick, choose, value, act, finish, runs}
-use Rattle.book.proofs.Text.{ExprHere, ClosingAt, ClosingHere}
+use Rattle.meaning.specs.Running.{Callee, tick, value, finish, runs}
+use Rattle.book.proofs.Text.{ClosingAt, ClosingHere}
 use Rattle.book.proofs.Views.{FirstView, PickView, first-view, give-view, pick-view, closing-code}
 use Rattle.book.proofs.Views.Bounds.{cmd-spans, expr-spans, closing-spans}
 use Rattle.runner.specs.Outcome.{outcome}

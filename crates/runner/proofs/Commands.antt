@@ -1,23 +1,23 @@
 -- What commands and runs of them come to.
-use mathlib.Core.Path.{_≡_, refl, sym, ap, _∙_}
+use mathlib.Core.Path.{_≡_, refl, sym, _∙_}
 use mathlib.Core.List.{List}
-use Prim.Native.Nat.{ℕ, zero, suc, _+_, _-_, _*_, _≤_, _<_}
+use Prim.Native.Nat.{ℕ, suc, _+_, _-_, _*_, _≤_, _<_}
 use native.Mathlib.Omega.{arith}
-use lib.ListN.{length, getD, take, set, length-set}
+use lib.ListN.{length, getD, take, set}
 use lib.Seq.{take-set-lt}
 use Rattle.meaning.specs.Tree.{Cmd, assign, branch, loop, loopsIn}
-use Rattle.meaning.specs.Running.{Out, yield, bind, tick, choose, Callee, value, turns, act, acts, runs}
+use Rattle.meaning.specs.Running.{tick, Callee, value, turns, act, acts, runs}
 use Rattle.book.proofs.Text.{ExprHere, RunHere}
 use Rattle.book.proofs.Views.{assign-view, branch-view, cmd-code}
-use Rattle.book.proofs.Views.Bounds.{expr-spans, cmd-spans, run-spans}
+use Rattle.book.proofs.Views.Bounds.{expr-spans, run-spans}
 use Rattle.runner.specs.Outcome.{outcome}
 use Rattle.runner.specs.Opened.{Opened, bookOf, inScope}
 use Rattle.runner.specs.Skipping.{SomeRun, RowPre, RowPost}
-use Rattle.runner.specs.Parts.{EvalPre, CmdPre, CmdFormPre, RunPre, Did, EvalPost, Acted, CmdPost, RunPost}
+use Rattle.runner.specs.Parts.{EvalPre, CmdPre, CmdFormPre, RunPre, EvalPost, Acted, CmdPost, RunPost}
 use Rattle.runner.specs.declared.cycle.Part.{Part}
 use Rattle.runner.proofs.Rows.{one-part}
 use Rattle.runner.proofs.Heads.{Near}
-use Rattle.runner.proofs.Outcomes.{stop, go, taken, not-taken, any-result, no-step, before-one}
+use Rattle.runner.proofs.Outcomes.{stop, go, taken, not-taken, no-step, before-one}
 
 -- With no steps left no command is entered.
 pub act-none : (c : Cmd) (f : Callee) (ρ a : List ℕ) → outcome 2 a 0 ≡ act c f ρ 0

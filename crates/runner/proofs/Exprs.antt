@@ -1,14 +1,12 @@
 -- What the arms of an expression come to.
-use mathlib.Core.Path.{_≡_, refl, sym, ap, _∙_}
+use mathlib.Core.Path.{_≡_, refl, sym, _∙_}
 use mathlib.Core.List.{List}
-use mathlib.Core.Option.{some}
-use Prim.Native.Nat.{ℕ, zero, suc, _+_, _-_, _*_, _≤_, _<_}
+use Prim.Native.Nat.{ℕ, suc, _+_, _-_, _<_}
 use native.Mathlib.Omega.{arith}
-use lib.ListN.{length, getD, take, getElem?}
+use lib.ListN.{length, getD, take}
 use lib.Seq.{getD-take}
 use Rattle.meaning.specs.Tree.{Expr, constant, variable, operation, call}
-use Rattle.meaning.specs.Reading.{operations}
-use Rattle.meaning.specs.Running.{Out, yield, bind, tick, ended, out-of-steps, operate, Callee, value, values, runs}
+use Rattle.meaning.specs.Running.{tick, Callee, value, runs}
 use Rattle.book.proofs.Text.{fourBytes, ExprHere}
 use Rattle.book.proofs.Views.{constant-view, variable-view, operation-view, expr-code}
 use Rattle.book.proofs.Views.Bounds.{expr-spans}

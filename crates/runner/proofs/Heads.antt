@@ -1,19 +1,19 @@
 -- Where the head of each form ends, and the parts inside it.
 use mathlib.Core.Path.{_≡_, refl, sym, _∙_}
 use mathlib.Core.List.{List}
-use Prim.Native.Nat.{ℕ, zero, suc, _+_, _-_, _*_, _≤_, _<_}
+use Prim.Native.Nat.{ℕ, _+_, _*_, _≤_, _<_}
 use native.Mathlib.Omega.{arith}
 use native.Mathlib.Decide.{ℕ-discrete}
 use lib.ListN.{length, getD}
 use Rattle.meaning.specs.Reading.{Scope, arities, entries, procedures, entry}
-use Rattle.book.proofs.Text.{ExprHere, ArgsHere, CmdHere, RunHere, ClosingHere}
-use Rattle.book.proofs.Views.{Code, expr-code, cmd-code, run-code, closing-code}
+use Rattle.book.proofs.Text.{ExprHere, CmdHere, ClosingHere}
+use Rattle.book.proofs.Views.{expr-code, cmd-code, run-code, closing-code}
 use Rattle.book.proofs.Views.{constant-view, variable-view, operation-view, call-view, assign-view, branch-view, loop-view, stop-view, then-view, give-view, pick-view, first-view}
-use Rattle.book.proofs.Views.Bounds.{expr-spans, cmd-spans, run-spans}
+use Rattle.book.proofs.Views.Bounds.{expr-spans, cmd-spans}
 use Rattle.runner.specs.Opened.{Opened, inScope}
-use Rattle.runner.specs.Skipping.{SomeExpr, SomeCmd, SomeRun, SomeClosing, InRow, RowPre, RowPost, PartPre, HeadPost}
+use Rattle.runner.specs.Skipping.{SomeExpr, SomeCmd, SomeRun, SomeClosing, RowPre, RowPost, PartPre, HeadPost}
 use Rattle.runner.specs.declared.skip.Head.{Head}
-use Rattle.runner.proofs.Rows.{one-part, two-parts, more-parts, no-parts, rows-append, args-row}
+use Rattle.runner.proofs.Rows.{one-part, two-parts, no-parts, rows-append, args-row}
 
 -- A called procedure's entry lies within the contents, and its parameters are counted there.
 pub record Called (b : List ℕ) (p : ℕ) : Type 0 where

@@ -1,8 +1,8 @@
 -- Answers read as outcomes, under what the rules do with an outcome: go on, choose, spend a step.
 use mathlib.Core.Path.{_≡_, refl}
-use Prim.Native.Nat.{ℕ, zero, suc, _-_, _≤_}
+use Prim.Native.Nat.{ℕ, zero, suc, _-_}
 use native.Mathlib.Omega.{arith}
-use Rattle.meaning.specs.Running.{Out, done, ended, out-of-steps, yield, bind, tick, choose}
+use Rattle.meaning.specs.Running.{Out, done, ended, yield, bind, tick, choose}
 use Rattle.runner.specs.Outcome.{endingOf, outcome}
 
 -- A part that has ended ends the whole, whatever result stands beside it.
@@ -16,12 +16,6 @@ stop (suc e) l a b o g p u = rw (← p)
 pub go : {A B : Type 0} (e l : ℕ) (a : A) (o : Out A) (g : A → ℕ → Out B) → outcome e a l ≡ o → e ≡ 0 → bind o g ≡ g a l
 unfolding outcome bind yield
 go e l a o g p z = rw (← p, z)
-
--- The result of an answer that has ended does not matter.
-pub any-result : {A : Type 0} (e l : ℕ) (a b : A) → (e ≡ 0 → ⊥) → outcome e a l ≡ outcome e b l
-unfolding outcome
-any-result zero l a b u = absurd (u refl)
-any-result (suc e) l a b u = refl
 
 pub no-step : {A : Type 0} (a : A) (g : ℕ → Out A) → outcome 2 a 0 ≡ tick 0 g
 unfolding outcome endingOf tick

@@ -1,16 +1,15 @@
 -- Parts in a row: taken apart, put together, and within the book.
-use mathlib.Core.Path.{_≡_, refl, sym, _∙_}
+use mathlib.Core.Path.{_≡_, refl, sym}
 use mathlib.Core.List.{List}
-use Prim.Native.Nat.{ℕ, zero, suc, _+_, _-_, _*_, _≤_, _<_}
+use Prim.Native.Nat.{ℕ, zero, suc, _+_, _-_, _≤_, _<_}
 use native.Mathlib.Nat.{suc-add, zero-add}
 use native.Mathlib.Omega.{arith}
-use native.Mathlib.Numerals.{add-one}
-use lib.ListN.{length, getD}
+use lib.ListN.{length}
 use Rattle.meaning.specs.Tree.{Args, nil, arg}
-use Rattle.meaning.specs.Reading.{Scope, arities, entries, procedures, entry}
-use Rattle.book.proofs.Text.{ExprAt, ArgsAt, ExprHere, ArgsHere}
+use Rattle.meaning.specs.Reading.{Scope}
+use Rattle.book.proofs.Text.{ArgsAt}
 use Rattle.book.proofs.Views.Bounds.{Spans, expr-spans, cmd-spans, run-spans, closing-spans}
-use Rattle.runner.specs.Opened.{Opened, inScope}
+use Rattle.runner.specs.Opened.{inScope}
 use Rattle.runner.specs.Skipping.{SomeExpr, SomeCmd, SomeRun, SomeClosing, InRow, RowPre, RowPost, PartPre, HeadPost}
 use Rattle.runner.specs.declared.skip.Head.{Head}
 
@@ -25,10 +24,6 @@ one-part P {at} {next} x = (next, x, refl)
 pub two-parts : (P : ℕ → ℕ → Type 0) {at mid next : ℕ} → P at mid → P mid next → InRow P 2 at next
 unfolding InRow
 two-parts P {at} {mid} {next} x y = (mid, x, (next, y, refl))
-
-pub more-parts : (P : ℕ → ℕ → Type 0) (k next : ℕ) {at mid : ℕ} → P at mid → InRow P k mid next → InRow P (suc k) at next
-unfolding InRow
-more-parts P k next {at} {mid} x xs = (mid, x, xs)
 
 pub rows-append : (P : ℕ → ℕ → Type 0) (j k at mid next : ℕ) → InRow P j at mid → InRow P k mid next → InRow P (j + k) at next
 unfolding InRow

@@ -1,18 +1,18 @@
 -- A run of commands while it goes on.
 use mathlib.Core.Path.{_≡_, refl, sym, _∙_}
 use mathlib.Core.List.{List}
-use Prim.Native.Nat.{ℕ, suc, _+_, _-_, _*_, _≤_, _<_}
+use Prim.Native.Nat.{ℕ, _+_, _*_, _≤_, _<_}
 use native.Mathlib.Omega.{arith}
 use lib.ListN.{length, getD, take}
 use Rattle.meaning.specs.Tree.{Run, loops}
 use Rattle.meaning.specs.Reading.{Scope}
-use Rattle.meaning.specs.Running.{bind, yield, act, acts, runs}
-use Rattle.book.proofs.Text.{CmdHere, RunAt, RunHere}
+use Rattle.meaning.specs.Running.{acts, runs}
+use Rattle.book.proofs.Text.{RunAt, RunHere}
 use Rattle.book.proofs.Views.{ThenView, then-view, stop-view, run-code}
 use Rattle.book.proofs.Views.Bounds.{cmd-spans}
 use Rattle.runner.specs.Outcome.{outcome}
 use Rattle.runner.specs.Opened.{Opened, bookOf, inScope}
-use Rattle.runner.specs.Parts.{CmdPre, RunPre, Acted, CmdPost, RunPost}
+use Rattle.runner.specs.Parts.{CmdPre, RunPre, CmdPost, RunPost}
 use Rattle.runner.specs.declared.cycle.Part.{Part}
 use Rattle.runner.proofs.Heads.{Near}
 use Rattle.runner.proofs.Outcomes.{stop, go}

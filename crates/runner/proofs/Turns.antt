@@ -1,17 +1,16 @@
 -- A loop while it turns: fuel above the steps left.
 use mathlib.Core.Path.{_≡_, refl, sym, _∙_}
 use mathlib.Core.List.{List}
-use Prim.Native.Nat.{ℕ, zero, suc, _+_, _-_, _*_, _≤_, _<_}
+use Prim.Native.Nat.{ℕ, zero, suc, _+_, _-_, _≤_, _<_}
 use native.Mathlib.Omega.{arith}
-use lib.ListN.{length, getD, take}
+use lib.ListN.{length, take}
 use Rattle.meaning.specs.Running.{Out, bind, tick, choose, yield, value, turns, act, acts, runs}
 use Rattle.book.proofs.Text.{ExprHere, CmdHere, RunHere}
 use Rattle.book.proofs.Views.{LoopView, loop-view}
-use Rattle.book.proofs.Views.Bounds.{expr-spans}
 use Rattle.runner.specs.Outcome.{outcome}
 use Rattle.runner.specs.Opened.{Opened, bookOf, inScope}
 use Rattle.runner.specs.Skipping.{SomeRun, RowPre, RowPost}
-use Rattle.runner.specs.Parts.{EvalPre, CmdPre, CmdFormPre, RunPre, EvalPost, Acted, CmdPost, RunPost}
+use Rattle.runner.specs.Parts.{EvalPre, CmdFormPre, RunPre, EvalPost, Acted, CmdPost, RunPost}
 use Rattle.runner.specs.declared.cycle.Part.{Part}
 use Rattle.runner.proofs.Outcomes.{stop, go, taken, not-taken, no-step}
 use Rattle.runner.proofs.Commands.{one-run, past-run}

@@ -4,7 +4,7 @@ use mathlib.Core.List.{List}
 use Prim.Native.Nat.{ℕ}
 use lib.ListN.{length, replicate}
 use Rattle.meaning.specs.Limits.{most-calls}
-use Rattle.meaning.specs.Answers.{Ran, ran}
+use Rattle.meaning.specs.Answers.{ran}
 use Rattle.runner.specs.Outcome.{outcome}
 use Rattle.runner.specs.Parts.{EnterPost}
 use Rattle.runner.specs.declared.cycle.Part.{Part}

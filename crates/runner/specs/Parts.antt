@@ -2,7 +2,7 @@
 -- procedure that runs, `d` the call depths left, `l` the steps left, `w` the work cells, of which the first n are its variables.
 use mathlib.Core.Path.{_≡_}
 use mathlib.Core.List.{List}
-use Prim.Native.Nat.{ℕ, suc, _+_, _*_, _≤_, _<_}
+use Prim.Native.Nat.{ℕ, _+_, _*_, _≤_, _<_}
 use lib.ListN.{length, getD, take}
 use Rattle.meaning.specs.Limits.{most-parameters}
 use Rattle.meaning.specs.Reading.{procedures, entry}

@@ -12,7 +12,7 @@ refused-requires : tie.Need-refused-requires
 refused-requires c κs = search needs
 
 returns : tie.Need-returns
-returns c = read-refused (c .before .before .before .read .ensures .refused) (c .before .if1 .taken) (c .refused .ensures)
+returns c = read-refused (c .before .before .before .read .ensures .refusal-is) (c .before .if1 .taken) (c .refused .ensures)
 
 run-readable-requires : tie.Need-run-readable-requires
 run-readable-requires c κs = accepted (rw (c .before .if1 .left) at (c .before .before .before .read .ensures)) .here

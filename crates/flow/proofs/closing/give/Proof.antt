@@ -8,7 +8,7 @@ add-expr : tie.Need-add-expr
 add-expr c = omega (arith, closing-there (c .before .before .before .pre .pre))
 
 expr-requires : tie.Need-expr-requires
-expr-requires c κs = give-pre (c .before .before .before .pre)
+expr-requires c κs = search give-pre
 
 union-requires : tie.Need-union-requires
 union-requires c κs = search needs
@@ -20,7 +20,7 @@ same-length : tie.Need-same-length
 same-length c = search needs
 
 returns : tie.Need-returns
-returns c = give-law (c .before .before .before .before .before .before .before .before .before .pre) (c .before .before .before .before .before .expr .ensures) (c .before .before .before .union .ensures) (c .before .before .add .ensures)
+returns c = search give-law
 
 pub give-spec : {M : Type 1} → statement M
 give-spec =

@@ -18,7 +18,7 @@ add-expr : tie.Need-add-expr
 add-expr c = omega (arith, assign-facts (c .before .before .before .before .before .pre))
 
 expr-requires : tie.Need-expr-requires
-expr-requires c κs = assign-pre (c .before .before .before .before .before .pre)
+expr-requires c κs = search assign-pre
 
 union-requires : tie.Need-union-requires
 union-requires c κs = search needs
@@ -27,7 +27,7 @@ with-requires : tie.Need-with-requires
 with-requires c κs = omega (arith, assign-facts (c .before .before .before .before .before .before .before .pre))
 
 returns : tie.Need-returns
-returns c = assign-law (c .before .before .before .before .before .before .before .before .pre) (c .before .before .before .number .ensures .0) (c .before .before .expr .ensures) (c .before .union .ensures) (c .with .ensures)
+returns c = search assign-law
 
 pub assign-spec : {M : Type 1} → statement M
 assign-spec =

@@ -1,5 +1,5 @@
 -- The first p procedures are walked.
-use mathlib.Core.Path.{_≡_, refl, sym, _∙_}
+use mathlib.Core.Path.{_≡_}
 use mathlib.Core.Logic.{⊎-elim}
 use Prim.Native.Nat.{_-_}
 use native.Mathlib.Omega.{arith}
@@ -16,7 +16,7 @@ abbrev μ-loop : tie.MeasureT-loop
 μ-loop book old new₀ n row₀ legal₀ p₀ new row legal p = n - p
 
 shared-slice-read-number : tie.Need-shared-slice-read-number Inv-loop μ-loop
-shared-slice-read-number c = some-bytes (c .before .before .before .before .pre)
+shared-slice-read-number c = search some-bytes
 
 number-requires : tie.Need-number-requires Inv-loop μ-loop
 number-requires c κs = tt

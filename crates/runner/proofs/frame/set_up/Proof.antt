@@ -3,7 +3,6 @@ use mathlib.Core.Path.{refl, _∙_}
 use mathlib.Core.Logic.{⊎-elim}
 use Prim.Native.Nat.{_-_}
 use native.Mathlib.Omega.{arith}
-use borrow.Author.Needs.{needs}
 use Rattle.runner.proofs.Frames.{SettingUp, Values, set-parameter, set-local, set-more, set-whole}
 use Rattle.runner.proofs.frame.set_up.Statement.{statement}
 use Rattle.runner.proofs.frame.set_up.Tie as tie

@@ -1,5 +1,5 @@
 -- The needs of `closing`.
-use Prim.Native.Nat.{ℕ, _+_, _*_, _-_, _≤_, _<_}
+use Prim.Native.Nat.{ℕ, _-_}
 use native.Mathlib.Omega.{arith}
 use lib.ListN.{length}
 use mathlib.Core.Path.{_∙_}
@@ -33,7 +33,7 @@ pub loop-less : (t : ℕ) → lts.Need-loop-less (claims t) (closing-at t) reads
 loop-less t c = omega (arith, c .before .before .before .command .ensures .on, closing-there (nearing-pre (c .before .before .before .before .before .before .before .before .before .before .before .pre .1) (c .before .before .before .before .before .before .before .loop .inv)))
 
 pub loop-again : (t : ℕ) → lts.Need-loop-again (claims t) (closing-at t) reads.Post Inv-loop μ-loop
-loop-again t c = nearing-more (c .before .before .before .before .before .before .before .loop .inv) (c .before .before .before .command .kept .1 .1 .0) (c .before .before .before .before .before .if1 .taken) (c .before .before .before .command .ensures)
+loop-again t c = search nearing-more
 
 pub shared-slice-read-if2 : (t : ℕ) → lts.Need-shared-slice-read-if2 (claims t) (closing-at t) reads.Post Inv-loop μ-loop
 shared-slice-read-if2 t c = closing-there (nearing-pre (c .before .before .before .before .before .before .before .pre .1) (c .before .before .before .loop .inv))
@@ -45,7 +45,7 @@ pub same-length : (t : ℕ) → lts.Need-same-length (claims t) (closing-at t) r
 same-length t c = c .before .before .give .kept .1 .1 .0 ∙ c .before .before .before .before .before .before .before .before .loop .inv .long
 
 pub returns : (t : ℕ) → lts.Need-returns (claims t) (closing-at t) reads.Post Inv-loop μ-loop
-returns t c = nearing-done (c .before .before .before .before .before .before .before .before .before .before .before .before .pre .1) (c .before .before .before .before .before .before .before .before .loop .inv) (c .before .before .give .ensures)
+returns t c = search nearing-done
 
 pub pick-requires : (t : ℕ) → lts.Need-pick-requires (claims t) (closing-at t) reads.Post Inv-loop μ-loop
 pick-requires t c κs = (omega (arith, c .before .before .before .before .before .before .before .before .before .pre .0, c .before .before .before .before .before .loop .inv .on), pick-pre (nearing-pre (c .before .before .before .before .before .before .before .before .before .pre .1) (c .before .before .before .before .before .loop .inv)) (c .before .before .before .if1 .left) (c .before .if2 .left))
@@ -54,4 +54,4 @@ pub same-length-2 : (t : ℕ) → lts.Need-same-length-2 (claims t) (closing-at 
 same-length-2 t c = c .before .before .pick .kept .1 .1 .0 ∙ c .before .before .before .before .before .before .before .before .loop .inv .long
 
 pub returns-2 : (t : ℕ) → lts.Need-returns-2 (claims t) (closing-at t) reads.Post Inv-loop μ-loop
-returns-2 t c = nearing-done (c .before .before .before .before .before .before .before .before .before .before .before .before .pre .1) (c .before .before .before .before .before .before .before .before .loop .inv) (c .before .before .pick .ensures)
+returns-2 t c = search nearing-done

@@ -1,7 +1,6 @@
 -- The needs of `pick`.
-use Prim.Native.Nat.{ℕ, _+_, _*_, _-_, _≤_, _<_}
+use Prim.Native.Nat.{ℕ}
 use native.Mathlib.Omega.{arith}
-use lib.ListN.{length}
 use mathlib.Core.Path.{_∙_}
 use Rattle.flow.proofs.Closings.{closing-there, pick-test-pre, pick-yes-pre, pick-no-pre, pick-law}
 use Rattle.flow.proofs.closing.closing.Reads as closing
@@ -18,7 +17,7 @@ pub add-expr : (t : ℕ) → lts.Need-add-expr (claims t) (pick-at t) reads.Post
 add-expr t c = omega (arith, closing-there (c .before .before .before .pre .1 .pre))
 
 pub expr-requires : (t : ℕ) → lts.Need-expr-requires (claims t) (pick-at t) reads.Post
-expr-requires t c κs = pick-test-pre (c .before .before .before .pre .1)
+expr-requires t c κs = search pick-test-pre
 
 pub union-requires : (t : ℕ) → lts.Need-union-requires (claims t) (pick-at t) reads.Post
 union-requires t c κs = tt
@@ -33,4 +32,4 @@ pub same-length : (t : ℕ) → lts.Need-same-length (claims t) (pick-at t) read
 same-length t c = c .before .before .closing2 .kept .1 .1 .0 ∙ c .before .before .before .before .before .before .closing .kept .1 .1 .0
 
 pub returns : (t : ℕ) → lts.Need-returns (claims t) (pick-at t) reads.Post
-returns t c = pick-law (c .before .before .before .before .before .before .before .before .before .before .before .before .before .pre .1) (c .before .before .before .before .before .before .before .before .before .expr .ensures) (c .before .before .before .before .before .before .before .before .union .ensures) (c .before .before .before .before .before .before .closing .ensures) (c .before .before .closing2 .ensures)
+returns t c = search pick-law

@@ -1,7 +1,6 @@
 -- The needs of `branch`.
-use Prim.Native.Nat.{ℕ, _+_, _*_, _-_, _≤_, _<_}
+use Prim.Native.Nat.{ℕ}
 use native.Mathlib.Omega.{arith}
-use lib.ListN.{length}
 use mathlib.Core.Path.{_∙_}
 use Rattle.flow.proofs.Cmds.{branch-law, branch-test-pre, yes-pre, no-pre, cmd-there}
 use Rattle.sets.proofs.Set.union.Reads as Set-union-reads
@@ -19,7 +18,7 @@ pub add-expr : (t : ℕ) → lts.Need-add-expr (claims t) (branch-at t) reads.Po
 add-expr t c = omega (arith, cmd-there (c .before .before .before .pre .1 .pre))
 
 pub expr-requires : (t : ℕ) → lts.Need-expr-requires (claims t) (branch-at t) reads.Post
-expr-requires t c κs = branch-test-pre (c .before .before .before .pre .1)
+expr-requires t c κs = search branch-test-pre
 
 pub union-requires : (t : ℕ) → lts.Need-union-requires (claims t) (branch-at t) reads.Post
 union-requires t c κs = tt

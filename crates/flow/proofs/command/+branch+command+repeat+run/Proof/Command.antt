@@ -1,7 +1,6 @@
 -- The needs of `command`.
-use Prim.Native.Nat.{ℕ, _+_, _*_, _-_, _≤_, _<_}
+use Prim.Native.Nat.{ℕ}
 use native.Mathlib.Omega.{arith}
-use lib.ListN.{length}
 use Rattle.flow.proofs.Cmds.{cmd-there, loop-pre}
 use Rattle.flow.proofs.command.assign.Reads as assign-reads
 use Rattle.flow.proofs.command.branch.Reads as branch
@@ -14,7 +13,7 @@ abbrev pub claims : ℕ → lts.Claims
 claims t = (assign-reads.Asked, assign-reads.Learnt, branch-below t, branch.Post, repeat-below t, repeat.Post)
 
 pub shared-slice-read-code : (t : ℕ) → lts.Need-shared-slice-read-code (claims t) (command-at t) reads.Post
-shared-slice-read-code t c = cmd-there (c .before .before .before .before .pre .1)
+shared-slice-read-code t c = search cmd-there
 
 pub assign-requires : (t : ℕ) → lts.Need-assign-requires (claims t) (command-at t) reads.Post
 assign-requires t c κs = record { pre = c .before .before .before .before .before .before .pre .1; is = c .before .if1 .taken }

@@ -1,7 +1,6 @@
 -- The needs of `repeat`.
-use Prim.Native.Nat.{ℕ, _+_, _*_, _-_, _≤_, _<_}
+use Prim.Native.Nat.{ℕ}
 use native.Mathlib.Omega.{arith}
-use lib.ListN.{length}
 use mathlib.Core.Path.{_∙_}
 use Rattle.flow.proofs.Cmds.{repeat-law, loop-test-pre, row-room, body-pre, cmd-there}
 use Rattle.sets.proofs.Set.union.Reads as Set-union-reads
@@ -26,7 +25,7 @@ pub add-expr : (t : ℕ) → lts.Need-add-expr (claims t) (repeat-at t) reads.Po
 add-expr t c = omega (arith, cmd-there (c .before .before .before .before .before .before .before .before .pre .1 .pre))
 
 pub expr-requires : (t : ℕ) → lts.Need-expr-requires (claims t) (repeat-at t) reads.Post
-expr-requires t c κs = loop-test-pre (c .before .before .before .before .before .before .before .before .pre .1)
+expr-requires t c κs = search loop-test-pre
 
 pub union-requires : (t : ℕ) → lts.Need-union-requires (claims t) (repeat-at t) reads.Post
 union-requires t c κs = tt

@@ -1,5 +1,5 @@
 -- The needs of `run`.
-use Prim.Native.Nat.{ℕ, _+_, _*_, _-_, _≤_, _<_}
+use Prim.Native.Nat.{ℕ, _-_}
 use native.Mathlib.Omega.{arith}
 use lib.ListN.{length}
 use Rattle.flow.proofs.Runs.{Running, running-none, running-more, running-done, running-pre, running-there}
@@ -21,7 +21,7 @@ pub loop-holds : (t : ℕ) → lts.Need-loop-holds (claims t) (run-at t) reads.P
 loop-holds t c = running-none _ _ _ _ _ _ _ _ (c .before .before .before .pre .1 .ready .wide)
 
 pub shared-slice-read-if1 : (t : ℕ) → lts.Need-shared-slice-read-if1 (claims t) (run-at t) reads.Post Inv-loop μ-loop
-shared-slice-read-if1 t c = running-there (c .before .before .before .before .before .pre .1) (c .before .loop .inv)
+shared-slice-read-if1 t c = search running-there
 
 pub command-requires : (t : ℕ) → lts.Need-command-requires (claims t) (run-at t) reads.Post Inv-loop μ-loop
 command-requires t c κs = (omega (arith, c .before .before .before .before .before .before .before .pre .0, c .before .before .before .loop .inv .on, running-there (c .before .before .before .before .before .before .before .pre .1) (c .before .before .before .loop .inv)), running-pre (c .before .before .before .before .before .before .before .pre .1) (c .before .before .before .loop .inv) (c .before .if1 .taken))
@@ -30,7 +30,7 @@ pub loop-less : (t : ℕ) → lts.Need-loop-less (claims t) (run-at t) reads.Pos
 loop-less t c = omega (arith, c .before .before .before .command .ensures .on, running-there (c .before .before .before .before .before .before .before .before .before .before .before .pre .1) (c .before .before .before .before .before .before .before .loop .inv))
 
 pub loop-again : (t : ℕ) → lts.Need-loop-again (claims t) (run-at t) reads.Post Inv-loop μ-loop
-loop-again t c = running-more (c .before .before .before .before .before .before .before .loop .inv) (c .before .before .before .command .kept .1 .1 .0) (c .before .before .before .before .before .if1 .taken) (c .before .before .before .command .ensures)
+loop-again t c = search running-more
 
 pub add-t18 : (t : ℕ) → lts.Need-add-t18 (claims t) (run-at t) reads.Post Inv-loop μ-loop
 add-t18 t c = omega (arith, running-there (c .before .before .before .before .before .before .pre .1) (c .before .before .loop .inv))
@@ -39,4 +39,4 @@ pub same-length : (t : ℕ) → lts.Need-same-length (claims t) (run-at t) reads
 same-length t c = c .before .before .loop .inv .long
 
 pub returns : (t : ℕ) → lts.Need-returns (claims t) (run-at t) reads.Post Inv-loop μ-loop
-returns t c = running-done (c .before .before .before .before .before .before .pre .1) (c .before .before .loop .inv) (c .if1 .left)
+returns t c = search running-done

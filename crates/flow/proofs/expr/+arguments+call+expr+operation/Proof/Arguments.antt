@@ -1,7 +1,6 @@
 -- The needs of `arguments`.
-use Prim.Native.Nat.{ℕ, _+_, _*_, _-_, _≤_, _<_}
+use Prim.Native.Nat.{ℕ, _-_}
 use native.Mathlib.Omega.{arith}
-use lib.ListN.{length}
 use mathlib.Core.Path.{refl}
 use Rattle.flow.proofs.Exprs.{Giving, giving-none, giving-more, giving-done, giving-pre}
 use Rattle.flow.proofs.expr.expr.Reads as expr

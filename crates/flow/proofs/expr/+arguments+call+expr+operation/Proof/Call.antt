@@ -1,7 +1,6 @@
 -- The needs of `call`.
-use Prim.Native.Nat.{ℕ, _+_, _*_, _-_, _≤_, _<_}
+use Prim.Native.Nat.{ℕ}
 use native.Mathlib.Omega.{arith}
-use lib.ListN.{length}
 use Rattle.flow.proofs.Exprs.{call-law, call-there, call-facts, args-pre}
 use Rattle.flow.proofs.expr.arguments.Reads as arguments
 use Rattle.flow.proofs.expr.Gathered.gather.Reads as gather-reads
@@ -17,7 +16,7 @@ pub add-number : (t : ℕ) → lts.Need-add-number (claims t) (call-at t) reads.
 add-number t c = omega (arith, call-there (c .before .before .pre .1))
 
 pub shared-slice-read-number : (t : ℕ) → lts.Need-shared-slice-read-number (claims t) (call-at t) reads.Post
-shared-slice-read-number t c = call-there (c .before .before .before .pre .1)
+shared-slice-read-number t c = search call-there
 
 pub number-requires : (t : ℕ) → lts.Need-number-requires (claims t) (call-at t) reads.Post
 number-requires t c κs = tt

@@ -1,7 +1,6 @@
 -- The needs of `expr`.
-use Prim.Native.Nat.{ℕ, _+_, _*_, _-_, _≤_, _<_}
+use Prim.Native.Nat.{ℕ}
 use native.Mathlib.Omega.{arith}
-use lib.ListN.{length}
 use Rattle.flow.proofs.Exprs.{constant-law, variable-law, constant-there, variable-facts, expr-there, call-pre}
 use Rattle.flow.proofs.expr.call.Reads as call
 use Rattle.book.proofs.bytes.number.Reads as number-reads
@@ -15,7 +14,7 @@ abbrev pub claims : ℕ → lts.Claims
 claims t = (number-reads.Asked, number-reads.Learnt, of-reads.Asked, of-reads.Learnt, operation-below t, operation.Post, call-below t, call.Post)
 
 pub shared-slice-read-code : (t : ℕ) → lts.Need-shared-slice-read-code (claims t) (expr-at t) reads.Post
-shared-slice-read-code t c = expr-there (c .before .before .before .pre .1)
+shared-slice-read-code t c = search expr-there
 
 pub add-t10 : (t : ℕ) → lts.Need-add-t10 (claims t) (expr-at t) reads.Post
 add-t10 t c = omega (arith, constant-there (c .before .before .before .before .pre .1) (c .if1 .taken))
@@ -39,7 +38,7 @@ pub add-t16 : (t : ℕ) → lts.Need-add-t16 (claims t) (expr-at t) reads.Post
 add-t16 t c = omega (arith, variable-facts (c .before .before .before .before .before .before .before .before .pre .1) (c .before .before .before .if2 .taken))
 
 pub returns-2 : (t : ℕ) → lts.Need-returns-2 (claims t) (expr-at t) reads.Post
-returns-2 t c = variable-law (c .before .before .before .before .before .before .before .before .pre .1) (c .before .before .before .if2 .taken) (c .before .number .ensures .0) (c .of .ensures)
+returns-2 t c = search variable-law
 
 pub operation-requires : (t : ℕ) → lts.Need-operation-requires (claims t) (expr-at t) reads.Post
 operation-requires t c κs = (omega arith, record { pre = c .before .before .before .before .before .before .pre .1; is = c .if3 .taken })

@@ -1,7 +1,6 @@
 -- The needs of `operation`.
-use Prim.Native.Nat.{ℕ, _+_, _*_, _-_, _≤_, _<_}
+use Prim.Native.Nat.{ℕ}
 use native.Mathlib.Omega.{arith}
-use lib.ListN.{length}
 use Rattle.flow.proofs.Exprs.{operation-law, operation-there, left-pre, right-pre}
 use Rattle.flow.proofs.expr.expr.Reads as expr
 use Rattle.sets.proofs.Set.union.Reads as union-reads

@@ -1,12 +1,8 @@
 use mathlib.Core.Path.{refl}
-use Prim.Native.Nat.{_≤_, _-_, _+_}
+use Prim.Native.Nat.{_≤_, _-_}
 use native.Mathlib.Omega.{arith}
-use borrow.Author.Needs.{needs}
-use lib.ListN.{length}
-use Rattle.meaning.specs.Lists.{each}
-use Rattle.meaning.specs.Sets.{single}
 use Rattle.meaning.specs.Flow.{row, bySets}
-use Rattle.flow.proofs.Fill.{Filling, filling-none, filling-more, filling-done}
+use Rattle.flow.proofs.Fill.{Filling, filling-none}
 use Rattle.flow.proofs.Rows.{length-row, one-held, all-held}
 use Rattle.flow.proofs.row.Row.held.Statement.{statement}
 use Rattle.flow.proofs.row.Row.held.Tie as tie

@@ -1,12 +1,9 @@
 -- The first i sets are united.
-use mathlib.Core.Path.{_≡_, sym, _∙_}
 use Prim.Native.Nat.{_≤_, _-_}
 use native.Mathlib.Omega.{arith}
-use borrow.Author.Needs.{needs}
-use lib.ListN.{length}
 use Rattle.meaning.specs.Sets.{union}
 use Rattle.meaning.specs.Flow.{joined}
-use Rattle.flow.proofs.Fill.{Filling, filling-none, filling-more, filling-length, filling-ahead, filling-done}
+use Rattle.flow.proofs.Fill.{Filling, filling-none}
 use Rattle.flow.proofs.Rows.{length-joined, united, all-united}
 use Rattle.flow.proofs.row.Row.union.Statement.{statement}
 use Rattle.flow.proofs.row.Row.union.Tie as tie

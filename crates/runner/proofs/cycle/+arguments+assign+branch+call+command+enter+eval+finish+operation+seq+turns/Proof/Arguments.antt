@@ -1,5 +1,5 @@
 -- The arguments: each is evaluated in full before the next.
-use mathlib.Core.Path.{_≡_, refl, _∙_}
+use mathlib.Core.Path.{refl, _∙_}
 use Prim.Native.Nat.{ℕ, _-_}
 use native.Mathlib.Omega.{arith}
 use Rattle.runner.proofs.Fall.{fall-bytes}

@@ -1,6 +1,5 @@
 -- An assignment: the expression, and then the store.
 use native.Mathlib.Omega.{arith}
-use mathlib.Core.Path.{_∙_}
 use lib.ListN.{length-set}
 use borrow.Author.Needs.{needs}
 use Rattle.runner.proofs.Fall.{fall-bytes}
