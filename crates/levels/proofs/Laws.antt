@@ -2,11 +2,10 @@
 use mathlib.Core.Path.{_≡_, refl, sym}
 use mathlib.Core.Bool.{Bool, true, false, not}
 use mathlib.Core.List.{List}
-use Prim.Native.Nat.{ℕ, _*_, _^_, _≤_, _<_}
-use native.Mathlib.Nat.{mul-le-mul, div-eq-of-lt, pow-le-pow-right}
+use Prim.Native.Nat.{ℕ, _*_, _≤_, _<_}
+use native.Mathlib.Nat.{mul-le-mul}
 use native.Mathlib.Omega.{arith}
 use lib.ListN.{length, getD, List·getD-eq-default}
-use Rattle.meaning.specs.Sets.{member}
 
 -- Past the end of a list is 0.
 pub past-end : (s : List ℕ) (i : ℕ) → length s ≤ i → 0 ≡ getD s i 0
@@ -20,8 +19,3 @@ bytes-product a b ha hb = mul-le-mul {n₂ = 255} {m₂ = 255} (omega arith) (om
 pub against : (b : Bool) {x : Bool} → not x ≡ true → (b ≡ true → x ≡ true) → false ≡ b
 against true e h = let p = h refl in rw p at e
 against false e h = refl
-
--- Past the bits of a byte there is no member.
-pub past-byte : (i s : ℕ) → 8 ≤ i → s < 256 → false ≡ member i s
-unfolding member
-past-byte i s h k = rw (div-eq-of-lt {n = s} {m = 2 ^ i} (omega (arith, pow-le-pow-right {n = 2} (omega arith) h)))

@@ -1,8 +1,10 @@
 // Level tables: the test of a table, the join, the bottom level and the reported level. Each function takes any bytes.
 
+use sets::Set;
 ghost use mathlib.Core.Path.{_≡_};
+ghost use Prim.Native.Nat.{_≤_};
 ghost use lib.ListN.{getD};
-ghost use Rattle.meaning.specs.Sets.{member};
+ghost use Rattle.meaning.specs.Limits.{most-parameters};
 ghost use Rattle.meaning.specs.Levels.{levels, join, shaped, isBottom, valid, bottom, atOrBelow, reported};
 ghost use Rattle.levels.specs.Lawful.{stays, repeats, commutes, associates, lawful};
 
@@ -14,7 +16,7 @@ fn byte(bytes: &[u8], at: usize) -> u8
 }
 
 // The number of levels.
-fn count(table: &[u8]) -> u8
+pub fn count(table: &[u8]) -> u8
     ensures { λ r. ⌜ r ≡ levels (now (table .entry)) ⌝ }
 {
     byte(table, 0)
@@ -148,20 +150,14 @@ pub fn valid(table: &[u8]) -> bool
     is_bottom(table, bottom(table))
 }
 
-// Parameter i is in the set.
-fn named(set: u8, i: usize) -> bool
-    ensures { λ r. ⌜ r ≡ member i set ⌝ }
-{
-    if i < 8 { (set >> i) % 2 == 1 } else { false }
-}
-
 // Bottom joined with the levels of those of n parameters that are in the set.
-pub fn reported(table: &[u8], levels: &[u8], n: usize, set: u8) -> u8
-    ensures { λ r. ⌜ r ≡ reported (now (table .entry)) (now (levels .entry)) n set ⌝ }
+pub fn reported(table: &[u8], levels: &[u8], n: usize, set: Set) -> u8
+    requires { ⌜ n ≤ most-parameters ⌝ }
+    ensures { λ r. ⌜ r ≡ reported (now (table .entry)) (now (levels .entry)) n (set .bits) ⌝ }
 {
     let mut found = bottom(table);
     for i in 0..n {
-        if named(set, i) {
+        if set.has(i) {
             found = join(table, found, byte(levels, i));
         }
     }

@@ -10,7 +10,7 @@ use Rattle.levels.proofs.reported.Statement.{statement}
 use Rattle.levels.proofs.reported.Tie as tie
 
 abbrev Inv-loop : tie.InvT-loop
-Inv-loop table levels n set found₀ i₀ found i = (i ≤ n) × (found ≡ reported table levels i set)
+Inv-loop table levels n set found₀ i₀ found i = (i ≤ n) × (found ≡ reported table levels i (set .bits))
 
 abbrev μ-loop : tie.MeasureT-loop
 μ-loop table levels n set found₀ i₀ found i = n - i
@@ -21,8 +21,8 @@ bottom-requires c κs = search needs
 loop-holds : tie.Need-loop-holds Inv-loop μ-loop
 loop-holds c = (omega arith, search reported-none)
 
-named-requires : tie.Need-named-requires Inv-loop μ-loop
-named-requires c κs = search needs
+has-requires : tie.Need-has-requires Inv-loop μ-loop
+has-requires c κs = search needs
 
 byte-requires : tie.Need-byte-requires Inv-loop μ-loop
 byte-requires c κs = search needs
@@ -56,7 +56,7 @@ reported-spec =
     μ-loop
     bottom-requires
     loop-holds
-    named-requires
+    has-requires
     byte-requires
     join-requires
     add-i

@@ -1,0 +1,3 @@
+pub mod AllBelow
+pub mod Ways
+pub mod Promised
