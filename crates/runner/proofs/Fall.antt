@@ -1,6 +1,6 @@
 -- Call depth, steps left and bytes left, in this order, as one number that falls with each call of the cycle.
 use mathlib.Core.Path.{_≡_}
-use Prim.Native.Nat.{ℕ, _+_, _*_, _^_, _≤_, _<_}
+use Prim.Native.Nat.{ℕ, _+_, _-_, _*_, _^_, _≤_, _<_}
 use native.Mathlib.Omega.{arith}
 
 unfoldable pub fall : ℕ → ℕ → ℕ → ℕ

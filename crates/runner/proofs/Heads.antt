@@ -5,15 +5,18 @@ use Prim.Native.Nat.{ℕ, _+_, _*_, _≤_, _<_}
 use native.Mathlib.Omega.{arith}
 use native.Mathlib.Decide.{ℕ-discrete}
 use lib.ListN.{length, getD}
+use mir.Syntax.{w64}
+use mir.Val.{Fits}
 use Rattle.meaning.specs.Reading.{Scope, arities, entries, procedures, entry}
 use Rattle.book.proofs.Text.{ExprHere, CmdHere, ClosingHere}
 use Rattle.book.proofs.Views.{expr-code, cmd-code, run-code, closing-code}
-use Rattle.book.proofs.Views.{constant-view, variable-view, operation-view, call-view, assign-view, branch-view, loop-view, stop-view, then-view, give-view, pick-view, first-view}
+use Rattle.book.proofs.Views.{constant-view, variable-view, operation-view, call-view, assign-view, branch-view, loop-view}
+use Rattle.book.proofs.Views.{stop-view, then-view, give-view, pick-view, first-view}
 use Rattle.book.proofs.Views.Bounds.{expr-spans, cmd-spans}
 use Rattle.runner.specs.Opened.{Opened, inScope}
 use Rattle.runner.specs.Skipping.{SomeExpr, SomeCmd, SomeRun, SomeClosing, RowPre, RowPost, PartPre, HeadPost}
 use Rattle.runner.specs.declared.skip.Head.{Head}
-use Rattle.runner.proofs.Rows.{one-part, two-parts, no-parts, rows-append, args-row}
+use Rattle.runner.proofs.Rows.{one-part, two-parts, no-parts, rows-append, args-row, head-few, spanned-cmd, spanned-run}
 
 -- A called procedure's entry lies within the contents, and its parameters are counted there.
 pub record Called (b : List ℕ) (p : ℕ) : Type 0 where
@@ -21,29 +24,36 @@ pub record Called (b : List ℕ) (p : ℕ) : Type 0 where
   pub within : 7 + 6 * p ≤ length b
   pub counted : getD (arities (entries b)) p 0 ≡ (entry b p) .parameters
 
--- A place of the book, so near the start that no sum of a few bytes wraps.
-pub record Near (b : List ℕ) (at : ℕ) : Type 0 where
-  pub there : at < length b
-  pub few : length b ≤ 32768
-
 module _ {b : List ℕ} where
   -- The code of a call is the one that is left.
-  pub call-left : {v : Scope} {at : ℕ} (x : ExprHere b v at) → (getD b at 0 ≡ 0x10 → ⊥) → (getD b at 0 ≡ 0x11 → ⊥) → (getD b at 0 ≡ 0x12 → ⊥) →
-      getD b at 0 ≡ 0x13
+  pub call-left : {v : Scope} {at : ℕ} (x : ExprHere b v at) → (getD b at 0 ≡ 0x10 → ⊥) → (getD b at 0 ≡ 0x11 → ⊥) →
+      (getD b at 0 ≡ 0x12 → ⊥) → getD b at 0 ≡ 0x13
   call-left x p q r = let k = expr-code x in omega arith
 
-  -- Whatever stands here stands within the book.
-  pub expr-near : {at : ℕ} → PartPre (SomeExpr b) b at → Near b at
-  expr-near h = let k = expr-code (h .part .here) in let f = h .book .facts in omega arith
+  -- Whatever stands here stands within the book, and the book is short: two laws, so that `omega` takes each as a rule.
+  pub expr-there : {at : ℕ} → PartPre (SomeExpr b) b at → at < length b
+  expr-there h = let k = expr-code (h .part .here) in omega arith
 
-  pub cmd-near : {at : ℕ} → PartPre (SomeCmd b) b at → Near b at
-  cmd-near h = let k = cmd-code (h .part .here) in let f = h .book .facts in omega arith
+  pub expr-few : {at : ℕ} → PartPre (SomeExpr b) b at → length b ≤ 32768
+  expr-few h = let f = h .book .facts in omega arith
 
-  pub run-near : {at : ℕ} → PartPre (SomeRun b) b at → Near b at
-  run-near h = let k = run-code (h .part .here) in let f = h .book .facts in omega arith
+  pub cmd-there : {at : ℕ} → PartPre (SomeCmd b) b at → at < length b
+  cmd-there h = let k = cmd-code (h .part .here) in omega arith
 
-  pub closing-near : {at : ℕ} → PartPre (SomeClosing b) b at → Near b at
-  closing-near h = let k = closing-code (h .part .here) in let f = h .book .facts in omega arith
+  pub cmd-few : {at : ℕ} → PartPre (SomeCmd b) b at → length b ≤ 32768
+  cmd-few h = let f = h .book .facts in omega arith
+
+  pub run-there : {at : ℕ} → PartPre (SomeRun b) b at → at < length b
+  run-there h = let k = run-code (h .part .here) in omega arith
+
+  pub run-few : {at : ℕ} → PartPre (SomeRun b) b at → length b ≤ 32768
+  run-few h = let f = h .book .facts in omega arith
+
+  pub closing-there : {at : ℕ} → PartPre (SomeClosing b) b at → at < length b
+  closing-there h = let k = closing-code (h .part .here) in omega arith
+
+  pub closing-few : {at : ℕ} → PartPre (SomeClosing b) b at → length b ≤ 32768
+  closing-few h = let f = h .book .facts in omega arith
 
   pub constant-head : {at : ℕ} → PartPre (SomeExpr b) b at → getD b at 0 ≡ 0x10 →
       HeadPost (SomeExpr b) (SomeExpr b) b at (record { next = at + 5; more = 0 })
@@ -72,16 +82,28 @@ module _ {b : List ℕ} where
       let k : p < procedures b = omega arith in
       record { known = k; within = omega arith; counted = f .arity p k }
 
-  pub call-head : {at p m : ℕ} → PartPre (SomeExpr b) b at → getD b at 0 ≡ 0x13 → p ≡ getD b (at + 1) 0 → m ≡ (entry b p) .parameters →
+  -- The number of the procedure called, and the entry that it counts on.
+  pub call-there : {at : ℕ} → PartPre (SomeExpr b) b at → (getD b at 0 ≡ 0x10 → ⊥) → (getD b at 0 ≡ 0x11 → ⊥) →
+      (getD b at 0 ≡ 0x12 → ⊥) → at + 1 < length b
+  call-there h p q r = call-view (h .part .here) (call-left (h .part .here) p q r) .there
+
+  pub call-entry : {at n : ℕ} → PartPre (SomeExpr b) b at → (getD b at 0 ≡ 0x10 → ⊥) → (getD b at 0 ≡ 0x11 → ⊥) →
+      (getD b at 0 ≡ 0x12 → ⊥) → n ≡ getD b (at + 1) 0 → 7 + 6 * n ≤ length b
+  call-entry {at} {n} h p q r e =
+      let v = call-view (h .part .here) (call-left (h .part .here) p q r) in
+      rw e (called (h .book) (getD b (at + 1) 0) (v .known) .within)
+
+  pub call-head : {at n m : ℕ} → PartPre (SomeExpr b) b at → (getD b at 0 ≡ 0x10 → ⊥) → (getD b at 0 ≡ 0x11 → ⊥) →
+      (getD b at 0 ≡ 0x12 → ⊥) → n ≡ getD b (at + 1) 0 → m ≡ (entry b n) .parameters →
       HeadPost (SomeExpr b) (SomeExpr b) b at (record { next = at + 2; more = m })
-  call-head {at} {p} {m} h e q c =
+  call-head {at} {n} {m} h p q r e c =
       record {
         on = omega arith;
         rest =
-            λ n next x.
-            let v = call-view (x .here) e in
-            let k = called (h .book) (getD b (at + 1) 0) (v .known) in
-            rw (c, q, ← k .counted, x .ends, v .next) (args-row (v .given .tree) b _ _ _ _ (v .given .is));
+            λ k next x.
+            let v = call-view (x .here) (call-left (x .here) p q r) in
+            let w = called (h .book) (getD b (at + 1) 0) (v .known) in
+            rw (c, e, ← w .counted, x .ends, v .next) (args-row (v .given .tree) b _ _ _ _ (v .given .is));
       }
 
   -- One expression, and where it ends.
@@ -110,10 +132,12 @@ module _ {b : List ℕ} where
       }
 
   -- The codes that are left: a loop's, a closing if's.
-  pub loop-left : {v : Scope} {row at : ℕ} (x : CmdHere b v row at) → (getD b at 0 ≡ 0x01 → ⊥) → (getD b at 0 ≡ 0x02 → ⊥) → getD b at 0 ≡ 0x03
+  pub loop-left : {v : Scope} {row at : ℕ} (x : CmdHere b v row at) → (getD b at 0 ≡ 0x01 → ⊥) →
+      (getD b at 0 ≡ 0x02 → ⊥) → getD b at 0 ≡ 0x03
   loop-left x p q = let k = cmd-code x in omega arith
 
-  pub pick-left : {v : Scope} {row at : ℕ} (x : ClosingHere b v row at) → 0x04 ≤ getD b at 0 → (getD b at 0 ≡ 0x04 → ⊥) → getD b at 0 ≡ 0x05
+  pub pick-left : {v : Scope} {row at : ℕ} (x : ClosingHere b v row at) → 0x04 ≤ getD b at 0 →
+      (getD b at 0 ≡ 0x04 → ⊥) → getD b at 0 ≡ 0x05
   pick-left x p q = let k = closing-code x in omega arith
 
   -- The test of an if or of a loop.
@@ -142,11 +166,12 @@ module _ {b : List ℕ} where
             λ n next x.
             let v = branch-view (x .here) e in
             rw (past-expr q (v .test))
-            (two-parts (SomeRun b _) (record { row = _; here = v .yes; ends = refl }) (record { row = _; here = v .no; ends = x .ends ∙ v .next }));
+            (two-parts (SomeRun b _) (record { row = _; here = v .yes; ends = refl })
+            (record { row = _; here = v .no; ends = x .ends ∙ v .next }));
       }
 
-  pub loop-head : {at r : ℕ} → PartPre (SomeCmd b) b at → (getD b at 0 ≡ 0x01 → ⊥) → (getD b at 0 ≡ 0x02 → ⊥) → RowPost (SomeExpr b) b (at + 1) 1 r →
-      HeadPost (SomeCmd b) (SomeRun b) b at (record { next = r; more = 1 })
+  pub loop-head : {at r : ℕ} → PartPre (SomeCmd b) b at → (getD b at 0 ≡ 0x01 → ⊥) → (getD b at 0 ≡ 0x02 → ⊥) →
+      RowPost (SomeExpr b) b (at + 1) 1 r → HeadPost (SomeCmd b) (SomeRun b) b at (record { next = r; more = 1 })
   loop-head {at} {r} h p u q =
       let e = loop-left (h .part .here) p u in
       let v = loop-view (h .part .here) e in
@@ -157,7 +182,8 @@ module _ {b : List ℕ} where
         rest =
             λ n next x.
             let v = loop-view (x .here) e in
-            rw (past-expr q (v .test)) (one-part (SomeRun b _) (record { row = _; here = v .inside; ends = x .ends ∙ v .next }));
+            rw (past-expr q (v .test))
+            (one-part (SomeRun b _) (record { row = _; here = v .inside; ends = x .ends ∙ v .next }));
       }
 
   pub stop-head : {at : ℕ} → PartPre (SomeRun b) b at → getD b at 0 ≡ 0x00 →
@@ -169,8 +195,16 @@ module _ {b : List ℕ} where
       let v = then-view (h .part .here) u in
       record { book = h .book; variables = h .variables; next = v .head .next; part = record { row = _; here = v .head; ends = refl } }
 
-  pub then-head : {at : ℕ} {r : Head} → PartPre (SomeRun b) b at → (getD b at 0 ≡ 0x00 → ⊥) → HeadPost (SomeCmd b) (SomeRun b) b at r →
-      HeadPost (SomeRun b) (SomeRun b) b at (record { next = r .next; more = r .more + 1 })
+  -- The runs inside a command are no more than the book's bytes.
+  pub then-fits : {at : ℕ} {r : Head} → PartPre (SomeRun b) b at → (getD b at 0 ≡ 0x00 → ⊥) →
+      HeadPost (SomeCmd b) (SomeRun b) b at r → Fits w64 (r .more + 1)
+  then-fits h u q =
+      let k = head-few (SomeCmd b) (SomeRun b) (spanned-cmd b) (spanned-run b) (then-part h u) q in
+      let f = h .book .facts in
+      omega arith
+
+  pub then-head : {at : ℕ} {r : Head} → PartPre (SomeRun b) b at → (getD b at 0 ≡ 0x00 → ⊥) →
+      HeadPost (SomeCmd b) (SomeRun b) b at r → HeadPost (SomeRun b) (SomeRun b) b at (record { next = r .next; more = r .more + 1 })
   then-head {at} {r} h u q =
       record {
         on = q .on;
@@ -187,15 +221,20 @@ module _ {b : List ℕ} where
       let v = first-view (h .part .here) l in
       record { book = h .book; variables = h .variables; next = v .head .next; part = record { row = _; here = v .head; ends = refl } }
 
-  pub head-row : {at : ℕ} {r : Head} → PartPre (SomeCmd b) b at → HeadPost (SomeCmd b) (SomeRun b) b at r → RowPre (SomeRun b) b (r .next) (r .more)
-  head-row h q = record { book = h .book; variables = h .variables; next = h .next; row = q .rest (h .variables) (h .next) (h .part) }
+  pub first-row : {at : ℕ} {r : Head} → PartPre (SomeClosing b) b at → getD b at 0 < 0x04 →
+      HeadPost (SomeCmd b) (SomeRun b) b at r → RowPre (SomeRun b) b (r .next) (r .more)
+  first-row h l q =
+      let k = first-part h l in
+      record { book = k .book; variables = k .variables; next = k .next; row = q .rest (k .variables) (k .next) (k .part) }
 
-  pub first-head : {at r : ℕ} {k : Head} → PartPre (SomeClosing b) b at → getD b at 0 < 0x04 → HeadPost (SomeCmd b) (SomeRun b) b at k →
-      RowPost (SomeRun b) b (k .next) (k .more) r → HeadPost (SomeClosing b) (SomeClosing b) b at (record { next = r; more = 1 })
+  pub first-head : {at r : ℕ} {k : Head} → PartPre (SomeClosing b) b at → getD b at 0 < 0x04 →
+      HeadPost (SomeCmd b) (SomeRun b) b at k → RowPost (SomeRun b) b (k .next) (k .more) r →
+      HeadPost (SomeClosing b) (SomeClosing b) b at (record { next = r; more = 1 })
   first-head {at} {r} {k} h l q o =
+      let n = h .variables in
       let v = first-view (h .part .here) l in
       let s = cmd-spans (v .head) in
-      let e = o .past (h .variables) (v .head .next) (q .rest (h .variables) (v .head .next) (record { row = _; here = v .head; ends = refl })) in
+      let e = o .past n (v .head .next) (q .rest n (v .head .next) (record { row = _; here = v .head; ends = refl })) in
       record {
         on = omega arith;
         rest =
@@ -222,8 +261,8 @@ module _ {b : List ℕ} where
             no-parts (SomeClosing b _) (x .ends ∙ (v .next ∙ sym (past-expr q (v .given))));
       }
 
-  pub pick-head : {at r : ℕ} → PartPre (SomeClosing b) b at → 0x04 ≤ getD b at 0 → (getD b at 0 ≡ 0x04 → ⊥) → RowPost (SomeExpr b) b (at + 1) 1 r →
-      HeadPost (SomeClosing b) (SomeClosing b) b at (record { next = r; more = 2 })
+  pub pick-head : {at r : ℕ} → PartPre (SomeClosing b) b at → 0x04 ≤ getD b at 0 → (getD b at 0 ≡ 0x04 → ⊥) →
+      RowPost (SomeExpr b) b (at + 1) 1 r → HeadPost (SomeClosing b) (SomeClosing b) b at (record { next = r; more = 2 })
   pick-head {at} {r} h l u q =
       let e = pick-left (h .part .here) l u in
       let v = pick-view (h .part .here) e in
@@ -235,5 +274,6 @@ module _ {b : List ℕ} where
             λ n next x.
             let v = pick-view (x .here) e in
             rw (past-expr q (v .test))
-            (two-parts (SomeClosing b _) (record { row = _; here = v .yes; ends = refl }) (record { row = _; here = v .no; ends = x .ends ∙ v .next }));
+            (two-parts (SomeClosing b _) (record { row = _; here = v .yes; ends = refl })
+            (record { row = _; here = v .no; ends = x .ends ∙ v .next }));
       }

@@ -5,6 +5,8 @@ use Prim.Native.Nat.{ℕ, zero, suc, _+_, _-_, _≤_, _<_}
 use native.Mathlib.Nat.{suc-add, zero-add}
 use native.Mathlib.Omega.{arith}
 use lib.ListN.{length}
+use mir.Syntax.{w64}
+use mir.Val.{Fits}
 use Rattle.meaning.specs.Tree.{Args, nil, arg}
 use Rattle.meaning.specs.Reading.{Scope}
 use Rattle.book.proofs.Text.{ArgsAt}
@@ -66,7 +68,8 @@ pub spanned-closing : (b : List ℕ) → Spanned b (SomeClosing b)
 spanned-closing b = record { spans = λ v at next x. let h = closing-spans (x .here) in omega arith }
 
 -- A row has no more parts than bytes.
-row-few : (b : List ℕ) (P : Scope → ℕ → ℕ → Type 0) → Spanned b P → (v : Scope) (k at next : ℕ) → InRow (P v) k at next → k + at ≤ next
+row-few : (b : List ℕ) (P : Scope → ℕ → ℕ → Type 0) → Spanned b P → (v : Scope) (k at next : ℕ) →
+    InRow (P v) k at next → k + at ≤ next
 unfolding InRow
 row-few b P s v zero at next x = omega arith
 row-few b P s v (suc k) at next x =
@@ -74,7 +77,8 @@ row-few b P s v (suc k) at next x =
     let l = row-few b P s v k (x .0) next (x .2) in
     omega arith
 
-row-within : (b : List ℕ) (P : Scope → ℕ → ℕ → Type 0) → Spanned b P → (v : Scope) (k at next : ℕ) → InRow (P v) k at next → at ≤ length b → next ≤ length b
+row-within : (b : List ℕ) (P : Scope → ℕ → ℕ → Type 0) → Spanned b P → (v : Scope) (k at next : ℕ) →
+    InRow (P v) k at next → at ≤ length b → next ≤ length b
 unfolding InRow
 row-within b P s v zero at next x l = omega arith
 row-within b P s v (suc k) at next x l =
@@ -82,7 +86,8 @@ row-within b P s v (suc k) at next x l =
     row-within b P s v k (x .0) next (x .2) (h .within)
 
 -- The parts inside a part are no more than the book's bytes.
-pub head-few : {b : List ℕ} (P Q : Scope → ℕ → ℕ → Type 0) {at : ℕ} {h : Head} → Spanned b P → Spanned b Q → PartPre P b at → HeadPost P Q b at h → h .more ≤ length b
+pub head-few : {b : List ℕ} (P Q : Scope → ℕ → ℕ → Type 0) {at : ℕ} {h : Head} → Spanned b P → Spanned b Q →
+    PartPre P b at → HeadPost P Q b at h → h .more ≤ length b
 head-few {b} P Q {at} {h} s t x post =
     let v = inScope b (x .variables) in
     let a = s .spans v at (x .next) (x .part) in
@@ -94,23 +99,31 @@ pub args-row : (es : Args) (b : List ℕ) (v : Scope) (n at next : ℕ) → Args
 unfolding ArgsAt InRow
 args-row nil b v n at next x = rw (x .none) (x .ends)
 args-row (arg e es) b v n at next x =
-    rw (x .some)
-    (x .mid, record { here = record { tree = e; next = x .mid; is = x .head }; ends = refl }, args-row es b v (x .fewer) (x .mid) next (x .rest))
+    rw (x .some) (
+      x .mid,
+      record { here = record { tree = e; next = x .mid; is = x .head }; ends = refl },
+      args-row es b v (x .fewer) (x .mid) next (x .rest),
+    )
 
 -- The loop that passes over a row: what was a row at the start is one still.
 pub record Passing (P : Scope → ℕ → ℕ → Type 0) (b : List ℕ) (at₀ count₀ at count : ℕ) : Type 0 where
+  pub pre : RowPre P b at₀ count₀
+  pub spanned : Spanned b P
   pub still : (n next : ℕ) → InRow (P (inScope b n)) count₀ at₀ next → InRow (P (inScope b n)) count at next
 
-pub record Turned (b : List ℕ) (at count : ℕ) (h : Head) : Type 0 where
-  pub few : count - 1 + h .more ≤ length b
-  pub less : length b - h .next < length b - at
+pub passing-start : {P : Scope → ℕ → ℕ → Type 0} {b : List ℕ} {at count : ℕ} → Spanned b P → RowPre P b at count →
+    Passing P b at count at count
+passing-start s r = record { pre = r; spanned = s; still = λ n next x. x }
 
-pub passing-start : (P : Scope → ℕ → ℕ → Type 0) {b : List ℕ} {at count : ℕ} → Passing P b at count at count
-passing-start P = record { still = λ n next x. x }
+record Turned (b : List ℕ) (at count : ℕ) (h : Head) : Type 0 where
+  few : count - 1 + h .more ≤ length b
+  less : length b - h .next < length b - at
 
-module _ (P : Scope → ℕ → ℕ → Type 0) {b : List ℕ} {at₀ count₀ at count : ℕ} where
-  pub passing-part : RowPre P b at₀ count₀ → Passing P b at₀ count₀ at count → 0 < count → PartPre P b at
-  passing-part r i h =
+-- A turn of the loop: the first part is there, and after its head the rest is a row, shorter in bytes.
+module _ {P : Scope → ℕ → ℕ → Type 0} {b : List ℕ} {at₀ count₀ at count : ℕ} where
+  pub passing-part : Passing P b at₀ count₀ at count → 0 < count → PartPre P b at
+  passing-part i h =
+      let r = i .pre in
       let x = headed (P (inScope b (r .variables))) count at (r .next) (i .still (r .variables) (r .next) (r .row)) h in
       record { book = r .book; variables = r .variables; next = x .mid; part = x .head }
 
@@ -118,16 +131,20 @@ module _ (P : Scope → ℕ → ℕ → Type 0) {b : List ℕ} {at₀ count₀ a
       Passing P b at₀ count₀ (h .next) (count - 1 + h .more)
   passing-on {h} i l post =
       record {
+        pre = i .pre;
+        spanned = i .spanned;
         still =
             λ n next x.
             let y = headed (P (inScope b n)) count at next (i .still n next x) l in
-            let z = rows-append (P (inScope b n)) (h .more) (count - 1) (h .next) (y .mid) next (post .rest n (y .mid) (y .head)) (y .rest) in
+            let z = post .rest n (y .mid) (y .head) in
             let e : count - 1 + h .more ≡ h .more + (count - 1) = omega arith in
-            rw e z;
+            rw e (rows-append (P (inScope b n)) (h .more) (count - 1) (h .next) (y .mid) next z (y .rest));
       }
 
-  pub passing-turned : {h : Head} → Spanned b P → RowPre P b at₀ count₀ → Passing P b at₀ count₀ at count → 0 < count → HeadPost P P b at h → Turned b at count h
-  passing-turned {h} s r i l post =
+  turned : {h : Head} → Passing P b at₀ count₀ at count → 0 < count → HeadPost P P b at h → Turned b at count h
+  turned {h} i l post =
+      let r = i .pre in
+      let s = i .spanned in
       let v = inScope b (r .variables) in
       let y = headed (P v) count at (r .next) (i .still (r .variables) (r .next) (r .row)) l in
       let z = passing-on {h = h} i l post .still (r .variables) (r .next) (r .row) in
@@ -137,5 +154,13 @@ module _ (P : Scope → ℕ → ℕ → Type 0) {b : List ℕ} {at₀ count₀ a
       let o = post .on in
       record { few = omega arith; less = omega arith }
 
-  pub passing-done : RowPre P b at₀ count₀ → Passing P b at₀ count₀ at count → count ≤ 0 → RowPost P b at₀ count₀ at
-  passing-done r i l = record { past = λ n next x. row-ends (P (inScope b n)) count at next (i .still n next x) l }
+  pub passing-fits : {h : Head} → Passing P b at₀ count₀ at count → 0 < count → HeadPost P P b at h →
+      Fits w64 (count - 1 + h .more)
+  passing-fits i l post = let t = turned i l post in let f = i .pre .book .facts in omega arith
+
+  pub passing-less : {h : Head} → Passing P b at₀ count₀ at count → 0 < count → HeadPost P P b at h →
+      length b - h .next < length b - at
+  passing-less i l post = turned i l post .less
+
+  pub passing-done : Passing P b at₀ count₀ at count → count ≤ 0 → RowPost P b at₀ count₀ at
+  passing-done i l = record { past = λ n next x. row-ends (P (inScope b n)) count at next (i .still n next x) l }

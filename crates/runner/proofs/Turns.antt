@@ -7,17 +7,26 @@ use lib.ListN.{length, take}
 use Rattle.meaning.specs.Running.{Out, bind, tick, choose, yield, value, turns, act, acts, runs}
 use Rattle.book.proofs.Text.{ExprHere, CmdHere, RunHere}
 use Rattle.book.proofs.Views.{LoopView, loop-view}
-use Rattle.runner.specs.Outcome.{outcome}
+use Rattle.runner.specs.Outcome.{leaves}
 use Rattle.runner.specs.Opened.{Opened, bookOf, inScope}
-use Rattle.runner.specs.Skipping.{SomeRun, RowPre, RowPost}
-use Rattle.runner.specs.Parts.{EvalPre, CmdFormPre, RunPre, EvalPost, Acted, CmdPost, RunPost}
-use Rattle.runner.specs.declared.cycle.Part.{Part}
-use Rattle.runner.proofs.Outcomes.{stop, go, taken, not-taken, no-step}
-use Rattle.runner.proofs.Commands.{one-run, past-run}
+use Rattle.runner.specs.Skipping.{SomeExpr}
+use Rattle.runner.specs.Answer.{answerOf, Ends, HasLeft, HasResult}
+use Rattle.runner.specs.Frame.{cells, depths}
+use Rattle.runner.specs.Parts.{Ready, EvalPre, CmdFormPre, CmdsPre, EvalPost, CmdPost, CmdsPost}
+use Rattle.runner.specs.Jumping.{EndsAt, Jumps, JumpPre, JumpPost}
+use Rattle.runner.proofs.Fall.{fall, fall-steps}
+use Rattle.runner.proofs.Packing.{has-ended, not-ended}
+use Rattle.runner.proofs.Memo.{ends-expr}
+use Rattle.runner.proofs.Ends.{one-expr}
+use Rattle.runner.proofs.Leads.{of-run}
+use Rattle.runner.proofs.Outcomes.{stop, go, taken, not-taken, no-step, left-over, said}
+use Rattle.runner.proofs.Exprs.{ready-on, expr-ready}
+use Rattle.runner.proofs.Commands.{run-ready, own-cmd}
 
 -- A turn that has a step and fuel: the test, and then the body and the turns that are left, or nothing.
 turn : (test : List ℕ → ℕ → Out ℕ) (inside : List ℕ → ℕ → Out (List ℕ)) (k : ℕ) (ρ : List ℕ) (l : ℕ) → 0 < k → (l ≡ 0 → ⊥) →
-    turns test inside k ρ l ≡ bind (test ρ (l - 1)) (λ v n. choose v (λ n. bind (inside ρ n) λ ρ n. turns test inside (k - 1) ρ n) (λ n. yield ρ n) n)
+    turns test inside k ρ l
+    ≡ bind (test ρ (l - 1)) (λ v n. choose v (λ n. bind (inside ρ n) λ ρ n. turns test inside (k - 1) ρ n) (λ n. yield ρ n) n)
 unfolding turns tick
 turn test inside zero ρ l f u = absurd (omega arith)
 turn test inside (suc k) ρ zero f u = absurd (u refl)
@@ -26,135 +35,190 @@ turn test inside (suc k) ρ (suc l) f u =
     let i : suc l - 1 ≡ l = omega arith in
     rw (e, i)
 
-turn-none : (test : List ℕ → ℕ → Out ℕ) (inside : List ℕ → ℕ → Out (List ℕ)) (k : ℕ) (ρ a : List ℕ) → 0 < k → outcome 2 a 0 ≡ turns test inside k ρ 0
+turn-none : (test : List ℕ → ℕ → Out ℕ) (inside : List ℕ → ℕ → Out (List ℕ)) (k : ℕ) (ρ a : List ℕ) (r : ℕ) → 0 < k → Ends 4 0 r →
+    leaves r a ≡ turns test inside k ρ 0
 unfolding turns
-turn-none test inside zero ρ a f = absurd (omega arith)
-turn-none test inside (suc k) ρ a f = no-step a _
+turn-none test inside zero ρ a r f z = absurd (omega arith)
+turn-none test inside (suc k) ρ a r f z = no-step r a _ z
 
-pub record Turning (b : List ℕ) (at n d l₀ : ℕ) (w₀ : List ℕ) (l : ℕ) (w : List ℕ) : Type 0 where
+-- Its condition's end may be asked.
+pub loop-jump : {b j : List ℕ} {at f l : ℕ} {w : List ℕ} → CmdFormPre 0x03 b j at f l w → JumpPre (SomeExpr b) b (at + 1) j
+loop-jump h = one-expr (h .start .ready .book) (loop-view (h .start .here) (h .code) .test) (h .start .ready .jumps)
+
+-- The loop as it stood when it was begun, the place of its body, and what is left to do.
+pub record Turning (b j₀ : List ℕ) (at f l₀ : ℕ) (w₀ : List ℕ) (inside : ℕ) (j : List ℕ) (l : ℕ) (w : List ℕ) : Type 0 where
+  pub pre : CmdFormPre 0x03 b j₀ at f l₀ w₀
+  pub ends : EndsAt b (at + 1) inside
+  pub jumps : Jumps b j
   pub fuel : ℕ
   pub enough : l < fuel
-  pub ran : (g : Opened b) (r : ℕ) (x : CmdHere b (inScope b n) r at) (v : LoopView b (inScope b n) r at x) →
-      turns (λ ρ m. value (v .test .tree) (runs (bookOf g) d) ρ m) (λ ρ m. acts (v .inside .tree) (runs (bookOf g) d) ρ m) fuel (take n w) l
-      ≡ act (x .tree) (runs (bookOf g) d) (take n w₀) l₀
+  pub ran : (g : Opened b) (r : ℕ) (x : CmdHere b (inScope b (cells f)) r at) (v : LoopView b (inScope b (cells f)) r at x) →
+      turns (λ ρ m. value (v .test .tree) (runs (bookOf g) (depths f)) ρ m) (λ ρ m. acts (v .inside .tree) (runs (bookOf g) (depths f)) ρ m) fuel
+      (take (cells f) w) l
+      ≡ act (x .tree) (runs (bookOf g) (depths f)) (take (cells f) w₀) l₀
   pub long : length w ≡ length w₀
   pub fell : l ≤ l₀
 
-pub turning-start : {b : List ℕ} {at n d l : ℕ} {w : List ℕ} → Turning b at n d l w l w
+pub turning-start : {b j j₁ : List ℕ} {at f l inside : ℕ} {w : List ℕ} → CmdFormPre 0x03 b j at f l w → JumpPost b (at + 1) j₁ inside →
+    Turning b j₁ at f l w inside j₁ l w
 unfolding act
-turning-start {l = l} =
-    record { fuel = suc l; enough = omega arith; ran = λ g r x v. rw (v .tree); long = refl; fell = omega arith }
+turning-start {l = l} h e =
+    record {
+      pre =
+          record {
+            start =
+                record {
+                  ready = ready-on (h .start .ready) (e .jumps) refl (omega arith);
+                  row = h .start .row;
+                  here = h .start .here;
+                  there = h .start .there;
+                };
+            code = h .code;
+          };
+      ends = e .ends;
+      jumps = e .jumps;
+      fuel = suc l;
+      enough = omega arith;
+      ran = λ g r x v. rw (v .tree);
+      long = refl;
+      fell = omega arith;
+    }
 
-module _ {b : List ℕ} {at n d l₀ : ℕ} {w₀ : List ℕ} {l : ℕ} {w : List ℕ} (h : CmdFormPre 0x03 b at n d w₀) (p : Turning b at n d l₀ w₀ l w) where
-  pub turns-spent : l ≡ 0 → CmdPost b at n d l₀ w₀ w (record { ending = 2; value = 0; left = 0; next = at })
-  turns-spent e =
+module _ {b j₀ : List ℕ} {at f l₀ : ℕ} {w₀ : List ℕ} {inside : ℕ} {j : List ℕ} {l : ℕ} {w : List ℕ} (p : Turning b j₀ at f l₀ w₀ inside j l w) where
+  ready-now : {j₁ w₁ : List ℕ} {m : ℕ} → Jumps b j₁ → length w₁ ≡ length w → m ≤ l → Ready b j₁ f m w₁
+  ready-now r e m = ready-on (p .pre .start .ready) r (e ∙ p .long) (omega (arith, p .fell))
+
+  pub turns-spent : {r : ℕ} → l ≡ 0 → Ends 4 0 r → CmdPost b at f l₀ w₀ w j r
+  turns-spent {r} e z =
       record {
         ran =
-            λ g r x.
-            let v = loop-view x (h .code) in
-            record {
-              gave = turn-none _ _ (p .fuel) (take n w) (take n w) (omega (arith, p .enough)) ∙ rw e at (p .ran g r x v);
-              stands = λ z. omega arith;
-            };
-        fell = omega arith;
+            λ g row x.
+            let v = loop-view x (p .pre .code) in
+            turn-none _ _ (p .fuel) (take (cells f) w) (take (cells f) w) r (omega (arith, p .enough)) z ∙ rw e at (p .ran g row x v);
+        long = p .long;
+        fell = omega (arith, left-over r z);
+        jumps = p .jumps;
+        jump = own-cmd (p .pre .start) (p .jumps);
       }
 
-  pub test-pre : EvalPre b (at + 1) n d w
-  test-pre =
-      record { book = h .start .book; here = loop-view (h .start .here) (h .code) .test; room = omega (arith, h .start .room, p .long) }
-
   module _ (u : l ≡ 0 → ⊥) where
+    pub turn-pre : EvalPre b j (at + 1) f (l - 1) w
+    turn-pre = expr-ready (ready-now (p .jumps) refl (omega arith)) (loop-view (p .pre .start .here) (p .pre .code) .test)
+
+    pub turn-falls : {t : ℕ} → fall (depths f) l₀ (length b - at) ≡ t → fall (depths f) (l - 1) (length b - (at + 1) + 1) < t
+    turn-falls e = fall-steps _ _ _ _ _ e (omega (arith, p .fell)) (omega (arith, p .pre .start .ready .bytes))
+
     -- The loop, opened by one turn.
-    opened : (g : Opened b) (r : ℕ) (x : CmdHere b (inScope b n) r at) (v : LoopView b (inScope b n) r at x) →
-        bind (value (v .test .tree) (runs (bookOf g) d) (take n w) (l - 1))
-        (λ c m. choose c (λ m. bind (acts (v .inside .tree) (runs (bookOf g) d) (take n w) m) λ ρ m. turns (λ ρ m. value (v .test .tree) (runs (bookOf g) d) ρ m) (λ ρ m. acts (v .inside .tree) (runs (bookOf g) d) ρ m) (p .fuel - 1) ρ m) (λ m. yield (take n w) m) m)
-        ≡ act (x .tree) (runs (bookOf g) d) (take n w₀) l₀
-    opened g r x v = sym (turn _ _ (p .fuel) (take n w) l (omega (arith, p .enough)) u) ∙ p .ran g r x v
+    opened : (g : Opened b) (r : ℕ) (x : CmdHere b (inScope b (cells f)) r at) (v : LoopView b (inScope b (cells f)) r at x) →
+        bind (value (v .test .tree) (runs (bookOf g) (depths f)) (take (cells f) w) (l - 1))
+        (λ c m.
+        choose c
+        (λ m.
+        bind (acts (v .inside .tree) (runs (bookOf g) (depths f)) (take (cells f) w) m) λ ρ m.
+        turns (λ ρ m. value (v .test .tree) (runs (bookOf g) (depths f)) ρ m) (λ ρ m. acts (v .inside .tree) (runs (bookOf g) (depths f)) ρ m)
+        (p .fuel - 1) ρ m)
+        (λ m. yield (take (cells f) w) m) m)
+        ≡ act (x .tree) (runs (bookOf g) (depths f)) (take (cells f) w₀) l₀
+    opened g r x v = sym (turn _ _ (p .fuel) (take (cells f) w) l (omega (arith, p .enough)) u) ∙ p .ran g r x v
 
-    module _ {w₁ : List ℕ} {a : Part} (q : EvalPost b (at + 1) n d (l - 1) w w₁ a) where
-      test-fell : a .left < l₀
-      test-fell = omega (arith, q .fell, p .fell)
+    module _ {w₁ j₁ : List ℕ} {a : ℕ} (q : EvalPost b (at + 1) f (l - 1) w w₁ j₁ a) where
+      test-fell : (answerOf a) .left < l
+      test-fell = omega (arith, q .fell)
 
-      pub turns-stopped : (a .ending ≡ 0 → ⊥) → CmdPost b at n d l₀ w₀ w₁ a
+      pub turns-stopped : 0x8000000000000000 ≤ a → CmdPost b at f l₀ w₀ w₁ j₁ a
       turns-stopped y =
           record {
             ran =
                 λ g r x.
-                let v = loop-view x (h .code) in
-                record {
-                  gave = stop (a .ending) (a .left) (a .value) (take n w₁) _ _ (q .ran g (v .test) .gave) y ∙ opened g r x v;
-                  stands = λ z. absurd (y z);
-                };
-            fell = omega (arith, test-fell);
+                let v = loop-view x (p .pre .code) in
+                stop a _ (take (cells f) w₁) _ _ (q .ran g (v .test)) (has-ended y) ∙ opened g r x v;
+            long = q .long ∙ p .long;
+            fell = omega (arith, test-fell, p .fell);
+            jumps = q .jumps;
+            jump = own-cmd (p .pre .start) (q .jumps);
           }
 
-      module _ (z : a .ending ≡ 0) where
-        pub inside-row : RowPre (SomeRun b) b (a .next) 1
-        inside-row =
-            let v = loop-view (h .start .here) (h .code) in
-            rw (q .ran (h .start .book) (v .test) .stands z) (one-run (h .start .book) (v .inside))
-
-        pub inside-pre : length w₁ ≡ length w → RunPre b (a .next) n d w₁
-        inside-pre e =
-            let v = loop-view (h .start .here) (h .code) in
-            record {
-              book = h .start .book;
-              row = h .start .row + n;
-              here = rw (q .ran (h .start .book) (v .test) .stands z) (v .inside);
-              room = omega (arith, h .start .room, p .long);
-            }
-
-        pub turns-done : {r : ℕ} → a .value ≡ 0 → RowPost (SomeRun b) b (a .next) 1 r →
-            CmdPost b at n d l₀ w₀ w₁ (record { ending = 0; value = 0; left = a .left; next = r })
-        unfolding outcome
-        turns-done {r} y o =
+      module _ (z : a < 0x8000000000000000) where
+        pub turns-done : {v : ℕ} → HasResult a v → v ≡ 0 → CmdPost b at f l₀ w₀ w₁ j₁ a
+        turns-done {v} i y =
             record {
               ran =
                   λ g row x.
-                  let v = loop-view x (h .code) in
-                  let s = q .ran g (v .test) in
-                  let k : RowPost (SomeRun b) b (v .test .next) 1 r = rw (s .stands z) at o in
-                  record {
-                    gave = rw (q .kept) (rw (go (a .ending) (a .left) (a .value) _ _ (s .gave) z, not-taken (a .value) (a .left) _ _ y) at (opened g row x v));
-                    stands = λ i. past-run k (v .inside) ∙ sym (v .next);
-                  };
-              fell = omega (arith, test-fell);
+                  let k = loop-view x (p .pre .code) in
+                  rw (not-ended z, q .kept)
+                  (said _ _
+                  ∙ rw (
+                    go a _ _ _ (q .ran g (k .test)) (not-ended z),
+                    not-taken ((answerOf a) .value) ((answerOf a) .left) _ _ (sym (i .is) ∙ y),
+                  ) at (opened g row x k));
+              long = q .long ∙ p .long;
+              fell = omega (arith, test-fell, p .fell);
+              jumps = q .jumps;
+              jump = own-cmd (p .pre .start) (q .jumps);
             }
 
-        module _ {w₂ : List ℕ} {s : Part} (y : a .value ≡ 0 → ⊥) (m : RunPost b (a .next) n d (a .left) w₁ w₂ s) where
-          inside-did : (g : Opened b) {row : ℕ} (t : ExprHere b (inScope b n) (at + 1)) (x : RunHere b (inScope b n) row (t .next)) →
-              Acted (acts (x .tree) (runs (bookOf g) d) (take n w) (a .left)) (x .next) n w₂ s
-          inside-did g t x =
-              let k : RunPost b (t .next) n d (a .left) w₁ w₂ s = rw (q .ran g t .stands z) at m in
-              rw (q .kept) at (k .ran g _ x)
+        module _ {m : ℕ} (k : HasLeft a m) where
+          pub inside-pre : CmdsPre b j₁ inside f m w₁
+          inside-pre =
+              let v = loop-view (p .pre .start .here) (p .pre .code) in
+              run-ready {row = p .pre .start .row + cells f}
+              (ready-now (q .jumps) (q .long) (omega (arith, k .is, test-fell)))
+              (rw (ends-expr (p .ends) (v .test)) (v .inside))
 
-          pub inside-stopped : (s .ending ≡ 0 → ⊥) → CmdPost b at n d l₀ w₀ w₂ s
-          inside-stopped i =
-              record {
-                ran =
-                    λ g row x.
-                    let v = loop-view x (h .code) in
-                    record {
-                      gave =
-                          stop (s .ending) (s .left) (take n w₂) (take n w₂) _ _ (inside-did g (v .test) (v .inside) .gave) i
-                          ∙ rw (go (a .ending) (a .left) (a .value) _ _ (q .ran g (v .test) .gave) z, taken (a .value) (a .left) _ _ y) at (opened g row x v);
-                      stands = λ j. absurd (i j);
-                    };
-                fell = omega (arith, test-fell, m .fell);
-              }
+          pub inside-falls : {t : ℕ} → fall (depths f) l₀ (length b - at) ≡ t → fall (depths f) m (length b - inside + 2) < t
+          inside-falls e = fall-steps _ _ _ _ _ e (omega (arith, k .is, test-fell, p .fell)) (omega (arith, p .pre .start .ready .bytes))
 
-          pub turning-on : s .ending ≡ 0 → length w₁ ≡ length w → length w₂ ≡ length w₁ → Turning b at n d l₀ w₀ (s .left) w₂
-          turning-on i e f =
-              record {
-                fuel = p .fuel - 1;
-                enough = omega (arith, p .enough, q .fell, m .fell);
-                ran =
-                    λ g row x v.
-                    rw (
-                      go (a .ending) (a .left) (a .value) _ _ (q .ran g (v .test) .gave) z,
-                      taken (a .value) (a .left) _ _ y,
-                      go (s .ending) (s .left) (take n w₂) _ _ (inside-did g (v .test) (v .inside) .gave) i,
-                    ) at (opened g row x v);
-                long = f ∙ (e ∙ p .long);
-                fell = omega (arith, test-fell, m .fell);
-              }
+          module _ {v : ℕ} (i : HasResult a v) (y : v ≡ 0 → ⊥) {w₂ j₂ : List ℕ} {s : ℕ} (c : CmdsPost b inside f m w₁ w₂ j₂ s) where
+            inside-did : (g : Opened b) {row : ℕ} (t : ExprHere b (inScope b (cells f)) (at + 1)) (x : RunHere b (inScope b (cells f)) row (t .next)) →
+                leaves s (take (cells f) w₂) ≡ acts (x .tree) (runs (bookOf g) (depths f)) (take (cells f) w) ((answerOf a) .left)
+            inside-did g {row} t x =
+                let o : CmdsPost b (t .next) f ((answerOf a) .left) w₁ w₂ j₂ s = rw (ends-expr (p .ends) t, k .is) at c in
+                rw (q .kept) at (o .ran g row (of-run x))
+
+            inside-fell : (answerOf s) .left < l
+            inside-fell = omega (arith, c .fell, k .is, test-fell)
+
+            -- The loop with its test passed.
+            entered : (g : Opened b) (row : ℕ) (x : CmdHere b (inScope b (cells f)) row at) (v : LoopView b (inScope b (cells f)) row at x) →
+                bind (acts (v .inside .tree) (runs (bookOf g) (depths f)) (take (cells f) w) ((answerOf a) .left))
+                (λ ρ m.
+                turns (λ ρ m. value (v .test .tree) (runs (bookOf g) (depths f)) ρ m) (λ ρ m. acts (v .inside .tree) (runs (bookOf g) (depths f)) ρ m)
+                (p .fuel - 1) ρ m)
+                ≡ act (x .tree) (runs (bookOf g) (depths f)) (take (cells f) w₀) l₀
+            entered g row x v =
+                rw (
+                  go a _ _ _ (q .ran g (v .test)) (not-ended z),
+                  taken ((answerOf a) .value) ((answerOf a) .left) _ _ (λ e. y (i .is ∙ e)),
+                ) at (opened g row x v)
+
+            pub inside-stopped : 0x8000000000000000 ≤ s → CmdPost b at f l₀ w₀ w₂ j₂ s
+            inside-stopped n =
+                record {
+                  ran =
+                      λ g row x.
+                      let v = loop-view x (p .pre .code) in
+                      stop s _ (take (cells f) w₂) _ _ (inside-did g (v .test) (v .inside)) (has-ended n) ∙ entered g row x v;
+                  long = c .long ∙ (q .long ∙ p .long);
+                  fell = omega (arith, inside-fell, p .fell);
+                  jumps = c .jumps;
+                  jump = own-cmd (p .pre .start) (c .jumps);
+                }
+
+            module _ {o : ℕ} (r : HasLeft s o) where
+              pub turning-less : o < l
+              turning-less = omega (arith, r .is, inside-fell)
+
+              pub turning-on : s < 0x8000000000000000 → Turning b j₀ at f l₀ w₀ inside j₂ o w₂
+              turning-on n =
+                  record {
+                    pre = p .pre;
+                    ends = p .ends;
+                    jumps = c .jumps;
+                    fuel = p .fuel - 1;
+                    enough = omega (arith, p .enough, r .is, inside-fell);
+                    ran =
+                        λ g row x v.
+                        rw (r .is) (rw (go s _ _ _ (inside-did g (v .test) (v .inside)) (not-ended n)) at (entered g row x v));
+                    long = c .long ∙ (q .long ∙ p .long);
+                    fell = omega (arith, turning-less, p .fell);
+                  }

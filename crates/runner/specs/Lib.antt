@@ -1,6 +1,10 @@
+pub mod Answer
 pub mod Outcome
 pub mod Operating
 pub mod Opened
+pub mod Frame
 pub mod Skipping
+pub mod Jumping
 pub mod Parts
+pub mod Smallness
 pub mod Answering

@@ -2,20 +2,25 @@
 ghost use Prim.Native.Nat.{_≤_};
 ghost use Rattle.meaning.specs.Contracts.{Runs};
 ghost use Rattle.book.proofs.Readable.{BookHere};
-ghost use Rattle.runner.specs.Parts.{EnterPre};
-ghost use Rattle.runner.specs.Answering.{StartedPost, AnsweredPost, RefusedPost};
+ghost use Rattle.runner.specs.Answer.{answerOf};
+ghost use Rattle.runner.specs.Answering.{AnsweredPost, RefusedPost, JudgedPost};
 
+mod answer;
 mod contents;
 mod cycle;
 mod frame;
+mod jumps;
 mod operate;
 mod skip;
+mod small;
+mod start;
 
+use crate::answer::ending_of;
+use crate::answer::left_of;
+use crate::answer::result_of;
 use crate::contents::parameters;
-use crate::cycle::Part;
-use crate::cycle::enter;
-use crate::frame::clear;
 use crate::frame::gather;
+use crate::start::started;
 use book::bytes::number;
 
 // A run's answer in document 01's numbers: the refusal, or 0 and the ending (1 finished, 2 out of steps, 3 too deep), the
@@ -38,20 +43,22 @@ fn refused(number: u8) -> RunAnswer
     }
 }
 
-fn answered(budget: u64, a: Part) -> RunAnswer
-    requires { ⌜ a .left ≤ budget ⌝ }
+fn answered(budget: u64, a: u64) -> RunAnswer
+    requires { ⌜ (answerOf a) .left ≤ budget ⌝ }
     ensures { λ r. ⌜ AnsweredPost budget a r ⌝ }
 {
-    let steps = budget - a.left;
-    if a.ending == 0 {
+    let left = left_of(a);
+    let steps = budget - (left as u64);
+    let ending = ending_of(a);
+    if ending == 0 {
         return RunAnswer {
             refusal: 0,
             ending: 1,
-            value: a.value,
+            value: result_of(a),
             steps,
         };
     }
-    if a.ending == 2 {
+    if ending == 4 {
         return RunAnswer {
             refusal: 0,
             ending: 2,
@@ -67,14 +74,24 @@ fn answered(budget: u64, a: Part) -> RunAnswer
     }
 }
 
-// A run in just the cells that it leaves 0.
-fn started(book: &[u8], p: usize, given: [u32; 8], budget: u64, work: &mut [u32]) -> Part
-    requires { ⌜ EnterPre (now book) p 64 (now work) ⌝ }
-    ensures { λ r. ⌜ StartedPost (now (book .entry)) p given budget (now (work .exit)) r ⌝ }
+// The refusal of a run of a readable book, 0 for none.
+fn judged(book: &[u8], procedure: usize, inputs: usize, budget: u64, cells: usize) -> u8
+    requires { ⌜ BookHere (now book) ⌝ }
+    ensures { λ r. ⌜ JudgedPost (now (book .entry)) procedure inputs budget cells r ⌝ }
 {
-    let a = enter(book, p, given, 64, budget, work);
-    clear(work);
-    a
+    if number(book[0]) <= procedure {
+        return 6;
+    }
+    if inputs != parameters(book, procedure) {
+        return 7;
+    }
+    if cells < 1024 {
+        return 10;
+    }
+    if 1000000 < budget {
+        return 11;
+    }
+    0
 }
 
 // A run of a book that is readable.
@@ -86,22 +103,15 @@ fn run_readable(
     work: &mut [u32],
 ) -> RunAnswer
     requires { ⌜ BookHere (now book) ⌝ }
-    ensures { λ r. ⌜ Runs (now (book .entry)) procedure (now (inputs .entry)) budget (now (work .entry)) (r .refusal) (r .ending) (r .value) (r .steps) (now (work .exit)) ⌝ }
+    ensures { λ r. ⌜ Runs (now (book .entry)) procedure (now (inputs .entry)) budget (now (work .entry))
+        (r .refusal) (r .ending) (r .value) (r .steps) (now (work .exit)) ⌝ }
 {
-    if number(book[0]) <= procedure {
-        return refused(6);
-    }
-    if inputs.len() != parameters(book, procedure) {
-        return refused(7);
-    }
-    if work.len() < 1024 {
-        return refused(10);
-    }
-    if 1000000 < budget {
-        return refused(11);
+    let refusal = judged(book, procedure, inputs.len(), budget, work.len());
+    if refusal != 0 {
+        return refused(refusal);
     }
     let given = gather(inputs);
-    let a = started(book, procedure, given, budget, &mut work[..1024]);
+    let a = started(book, procedure, &given, budget as u32, &mut work[..1024]);
     answered(budget, a)
 }
 
@@ -114,7 +124,8 @@ pub fn run(
     budget: u64,
     work: &mut [u32],
 ) -> RunAnswer
-    ensures { λ r. ⌜ Runs (now (book .entry)) procedure (now (inputs .entry)) budget (now (work .entry)) (r .refusal) (r .ending) (r .value) (r .steps) (now (work .exit)) ⌝ }
+    ensures { λ r. ⌜ Runs (now (book .entry)) procedure (now (inputs .entry)) budget (now (work .entry))
+        (r .refusal) (r .ending) (r .value) (r .steps) (now (work .exit)) ⌝ }
 {
     let a = book::read(book);
     if a.refusal != 0 {

@@ -1,15 +1,10 @@
 // The operations: one function per meaning, outside the cycle of the run.
 ghost use mathlib.Core.Path.{_≡_};
-ghost use Prim.Native.Nat.{_+_, _-_, _*_, _%_, _^_, min, max};
+ghost use Prim.Native.Nat.{_+_, _-_, _*_, _%_, _^_, _≤_, min, max};
 ghost use lib.Dec.{eqb, ltb};
 ghost use Rattle.meaning.specs.Running.{truth, quotientOf};
-ghost use Rattle.runner.specs.Operating.{OperatePost};
-
-// What an operation comes to: an ending, 0 for none, and a value.
-pub struct Operated {
-    pub ending: u8,
-    pub value: u32,
-}
+ghost use Rattle.runner.specs.Operating.{ValuePost, OperatePost};
+use crate::answer::yields;
 
 fn sum(a: u32, b: u32) -> u32
     ensures { λ r. ⌜ r ≡ (a + b) % 2 ^ 32 ⌝ }
@@ -59,42 +54,26 @@ fn larger(a: u32, b: u32) -> u32
     if a < b { b } else { a }
 }
 
-// Operation `o` on two operands; of a number that names no operation the contract says nothing.
-pub fn operate(o: u8, a: u32, b: u32) -> Operated
-    ensures { λ r. ⌜ OperatePost o a b r ⌝ }
+// The value of operation `o` on two operands; of a number that names no operation the contract says nothing.
+fn value_of(o: u8, a: u32, b: u32) -> u32
+    ensures { λ r. ⌜ ValuePost o a b r ⌝ }
 {
     match o {
-        0 => Operated {
-            ending: 0,
-            value: sum(a, b),
-        },
-        1 => Operated {
-            ending: 0,
-            value: difference(a, b),
-        },
-        2 => Operated {
-            ending: 0,
-            value: product(a, b),
-        },
-        3 => Operated {
-            ending: 0,
-            value: quotient(a, b),
-        },
-        4 => Operated {
-            ending: 0,
-            value: equal(a, b),
-        },
-        5 => Operated {
-            ending: 0,
-            value: less(a, b),
-        },
-        6 => Operated {
-            ending: 0,
-            value: smaller(a, b),
-        },
-        _ => Operated {
-            ending: 0,
-            value: larger(a, b),
-        },
+        0 => sum(a, b),
+        1 => difference(a, b),
+        2 => product(a, b),
+        3 => quotient(a, b),
+        4 => equal(a, b),
+        5 => less(a, b),
+        6 => smaller(a, b),
+        _ => larger(a, b),
     }
+}
+
+// What operation `o` comes to with `left` steps left.
+pub fn operate(o: u8, a: u32, b: u32, left: u32) -> u64
+    requires { ⌜ left ≤ 1000000 ⌝ }
+    ensures { λ r. ⌜ OperatePost o a b left r ⌝ }
+{
+    yields(value_of(o, a, b), left)
 }

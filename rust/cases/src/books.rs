@@ -9,6 +9,7 @@ use crate::random::Random;
 pub const MOST_BYTES: usize = 32_768;
 pub const MOST_DEPTH: usize = 24;
 pub const MOST_LOOPS: usize = 64;
+pub const MOST_PROCEDURES: usize = 32;
 
 /// What the bodies together may grow past the goal: the smallest ones, and the ends of the last parts.
 const OVERSHOOT: usize = 2_500;
@@ -531,10 +532,39 @@ pub fn with_loops(random: &mut Random, loops: usize) -> Vec<u8> {
 /// variable a turn, of which only the last variable goes over into the next loop's first. That is
 /// about a round for each variable of each loop.
 pub fn shifting(loops: usize, parameters: u8, locals: u8) -> Vec<u8> {
+    let body = shifting_body(loops, parameters + locals - 1);
+    assemble::single(parameters, locals, body)
+}
+
+/// Moves the set of variable 0 through so many loops and returns it.
+fn shifting_body(loops: usize, last: u8) -> Vec<u8> {
     use assemble::*;
-    let last = parameters + locals - 1;
     let shift = all(&(1..=last).rev().map(|to| set(to, variable(to - 1))).collect::<Vec<_>>());
     let clear = all(&(1..=last).map(|to| set(to, constant(0))).collect::<Vec<_>>());
     let turn = all(&[while_do(constant(1), shift), set(0, variable(last)), clear.clone()]);
-    single(parameters, locals, all(&[clear, vec![turn; loops].concat(), give(variable(0))]))
+    all(&[clear, vec![turn; loops].concat(), give(variable(0))])
+}
+
+/// A book of so many procedures whose finder adds just one parameter to one set in each round: with
+/// 32 of them no book takes it more rounds. A parameter moves through both loops of a procedure, a
+/// variable a round, into its result and so into the procedure before. Back at the last procedure it
+/// has set the next parameter moving.
+pub fn ring(procedures: usize) -> Vec<u8> {
+    use assemble::*;
+    let last = procedures - 1;
+    let around: Vec<_> = (1..8).map(variable).chain([constant(0)]).collect();
+    let through: Vec<_> = (0..8).map(variable).collect();
+    let begin = |procedure: usize| match procedure == last {
+        true => operation(SUM, variable(0), call(0, &around)),
+        false => call(procedure as u8 + 1, &through),
+    };
+    let body = |procedure| all(&[set(0, begin(procedure)), shifting_body(2, 15)]);
+    book(&(0..procedures).map(|procedure| (8, 8, body(procedure))).collect::<Vec<_>>())
+}
+
+/// The rounds that a ring takes: one for each parameter of each result and row, and one that adds
+/// nothing.
+pub fn ring_rounds(procedures: usize) -> u64 {
+    let sets_of_each = 1 + 2 * 16;
+    (8 * sets_of_each * procedures + 1) as u64
 }

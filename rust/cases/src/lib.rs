@@ -2,13 +2,15 @@
 //!
 //! `worked` and `edges` hold cases with the answers that the document gives; they are written over
 //! [`Entries`], so that the plain implementation, the proved library and any other are held to the
-//! same lines. `books`, `damage` and `tables` make random material from a seed.
+//! same lines. `books`, `damage` and `tables` make random material from a seed, `deepest` the runs
+//! that need the most stack.
 
 #![forbid(unsafe_code)]
 
 pub mod assemble;
 pub mod books;
 pub mod damage;
+pub mod deepest;
 pub mod edges;
 pub mod plain_entries;
 pub mod random;

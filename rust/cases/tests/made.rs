@@ -1,9 +1,10 @@
 //! What the makers of random material say of it is so.
 
-use cases::books::{deep, with_loops, Plan, MOST_BYTES, MOST_DEPTH, MOST_LOOPS};
+use cases::books::{deep, ring, ring_rounds, with_loops, Plan, MOST_BYTES, MOST_DEPTH, MOST_LOOPS};
 use cases::damage::damage;
+use cases::deepest::{all_deepest, books_of_depth, kinds};
 use cases::random::Random;
-use cases::{tables, Answer, Entries, PlainEntries};
+use cases::{tables, Answer, Entries, PlainEntries, FINISHED};
 
 #[test]
 fn random_numbers_depend_on_the_seed_alone() {
@@ -63,6 +64,39 @@ fn books_with_loops_have_so_many() {
         let refusal = if loops <= MOST_LOOPS { 0 } else { 4 };
         assert_eq!(PlainEntries.read(&with_loops(random, loops)).refusal, refusal, "{loops} loops");
     }
+}
+
+#[test]
+fn rings_take_their_rounds() {
+    for procedures in [1, 2, 5] {
+        let mut buffer = vec![0; 33 * procedures];
+        let found = Answer::given(&[buffer.len() as u64, ring_rounds(procedures)]);
+        assert_eq!(PlainEntries.find(&ring(procedures), &mut buffer), found);
+    }
+    // Rounds never exceed 8 times the size plus 1, and no size is over 1,056.
+    assert_eq!(ring_rounds(32), 8 * 1_056 + 1);
+    assert_eq!(PlainEntries.read(&ring(32)), Answer::given(&[1_056]));
+}
+
+#[test]
+fn deepest_books_have_the_greatest_depth() {
+    for (book, deeper) in books_of_depth(MOST_DEPTH).iter().zip(books_of_depth(MOST_DEPTH + 1)) {
+        assert_eq!(PlainEntries.read(book).refusal, 0);
+        assert_eq!(PlainEntries.read(&deeper).refusal, 3);
+    }
+}
+
+/// A run that finishes on the input 63 and is too deep on 64 was at call depth 64.
+#[test]
+fn deepest_runs_reach_call_depth_64() {
+    let mut work = [0; 1_024];
+    let mut finished = 0;
+    for run in all_deepest() {
+        let answer = PlainEntries.run(&run.book, 0, &run.inputs, 1_000_000, &mut work);
+        assert_eq!((answer.refusal, answer.fields[0]), (0, run.ending), "{}", run.kind);
+        finished += usize::from(run.ending == FINISHED);
+    }
+    assert_eq!(finished, kinds().count(), "each kind has one that finishes");
 }
 
 #[test]

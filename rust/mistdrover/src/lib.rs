@@ -33,6 +33,11 @@ pub const MOST_STEPS: u64 = 1_000_000;
 /// No summary is longer: 32 results, and 64 rows of 16 sets.
 pub const MOST_SUMMARY_BYTES: usize = 32 + 64 * 16;
 
+/// A thread whose stack has so many bytes has room for any [`run`], whatever the book: forms nested
+/// to depth 24 in each of 64 calls that are open at once use 388 KiB of it. Not proved;
+/// `tests/stack.rs` tries it on every kind of nesting.
+pub const STACK_OF_A_RUN: usize = 416 * 1_024;
+
 /// How a run ended.
 #[derive(Clone, Copy, Debug, PartialEq, Eq, Hash)]
 pub enum Ending {
@@ -90,7 +95,7 @@ pub fn read(book: &[u8]) -> Result<usize, Refusal> {
 /// Runs procedure `procedure` of the book on `inputs`, spending at most `budget` steps.
 ///
 /// `work` needs at least [`WORK_CELLS`] cells; after a run that is not refused the first
-/// [`WORK_CELLS`] are 0 and the others unchanged.
+/// [`WORK_CELLS`] are 0 and the others unchanged. The thread's stack needs [`STACK_OF_A_RUN`] bytes.
 ///
 /// Refusals: 1 to 4, 6, 7, 10, 11.
 pub fn run(

@@ -1,7 +1,6 @@
 -- A book that is refused, and one that is readable.
 use borrow.Author.Needs.{needs}
-use Rattle.book.proofs.Answer.{accepted}
-use Rattle.runner.proofs.Answers.{read-refused}
+use Rattle.runner.proofs.Answers.{read-refused, read-accepted}
 use Rattle.runner.proofs.run.Statement.{statement}
 use Rattle.runner.proofs.run.Tie as tie
 
@@ -12,16 +11,16 @@ refused-requires : tie.Need-refused-requires
 refused-requires c κs = search needs
 
 returns : tie.Need-returns
-returns c = read-refused (c .before .before .before .read .ensures .refusal-is) (c .before .if1 .taken) (c .refused .ensures)
+returns c = search read-refused
 
 run-readable-requires : tie.Need-run-readable-requires
-run-readable-requires c κs = accepted (rw (c .before .if1 .left) at (c .before .before .before .read .ensures)) .here
+run-readable-requires c κs = search read-accepted
 
 same-length : tie.Need-same-length
 same-length c = search needs
 
 returns-2 : tie.Need-returns-2
-returns-2 c = c .before .before .run-readable .ensures
+returns-2 c = search needs
 
 pub run-spec : {M : Type 1} → statement M
 run-spec =

@@ -1,11 +1,9 @@
 -- Zeros up to i, and then what was there.
-use mathlib.Core.Path.{refl}
 use Prim.Native.Nat.{_-_}
 use native.Mathlib.Omega.{arith}
-use borrow.Author.Fill.{fill-none}
 use borrow.Author.Needs.{needs}
 use lib.ListN.{length}
-use Rattle.runner.proofs.Frames.{Clearing, clear-more, clear-whole}
+use Rattle.runner.proofs.Frames.{Clearing, clear-start, clear-less, clear-more, clear-whole}
 use Rattle.runner.proofs.frame.clear.Statement.{statement}
 use Rattle.runner.proofs.frame.clear.Tie as tie
 
@@ -16,7 +14,7 @@ abbrev μ-loop : tie.MeasureT-loop
 μ-loop work₀ i₀ work i = length work₀ - i
 
 loop-holds : tie.Need-loop-holds Inv-loop μ-loop
-loop-holds c = record { some = omega arith; long = refl; zeros = fill-none _ 0 }
+loop-holds c = search clear-start
 
 mul-work : tie.Need-mul-work Inv-loop μ-loop
 mul-work c = search needs
@@ -28,16 +26,16 @@ add-i : tie.Need-add-i Inv-loop μ-loop
 add-i c = omega arith
 
 loop-less : tie.Need-loop-less Inv-loop μ-loop
-loop-less c = omega (arith, c .before .loop .inv .long)
+loop-less c = search clear-less
 
 loop-again : tie.Need-loop-again Inv-loop μ-loop
-loop-again c = clear-more (c .before .loop .inv) (c .loop-test .taken)
+loop-again c = search clear-more
 
 same-length : tie.Need-same-length Inv-loop μ-loop
-same-length c = c .before .loop .inv .long
+same-length c = search
 
 returns : tie.Need-returns Inv-loop μ-loop
-returns c = clear-whole (c .before .loop .inv) (c .loop-test .left)
+returns c = search clear-whole
 
 pub clear-spec : {M : Type 1} → statement M
 clear-spec =

@@ -3,7 +3,7 @@ use mathlib.Core.Path.{refl}
 use Prim.Native.Nat.{_-_}
 use native.Mathlib.Omega.{arith}
 use lib.ListN.{length}
-use Rattle.runner.proofs.Frames.{Taking, take-more, take-whole}
+use Rattle.runner.proofs.Frames.{Taking, take-start, take-more, take-whole}
 use Rattle.runner.proofs.frame.gather.Statement.{statement}
 use Rattle.runner.proofs.frame.gather.Tie as tie
 
@@ -14,7 +14,7 @@ abbrev μ-loop : tie.MeasureT-loop
 μ-loop inputs given₀ i₀ given i = length inputs - i
 
 loop-holds : tie.Need-loop-holds Inv-loop μ-loop
-loop-holds c = record { eight = refl; some = omega arith; same = refl }
+loop-holds c = take-start refl (search)
 
 mul-given : tie.Need-mul-given Inv-loop μ-loop
 mul-given c = omega arith
@@ -26,7 +26,7 @@ mul-given-2 : tie.Need-mul-given-2 Inv-loop μ-loop
 mul-given-2 c = omega arith
 
 array-write-given : tie.Need-array-write-given Inv-loop μ-loop
-array-write-given c = omega (arith, c .before .before .before .pre)
+array-write-given c = omega arith
 
 add-i : tie.Need-add-i Inv-loop μ-loop
 add-i c = omega arith
@@ -35,10 +35,10 @@ loop-less : tie.Need-loop-less Inv-loop μ-loop
 loop-less c = omega arith
 
 loop-again : tie.Need-loop-again Inv-loop μ-loop
-loop-again c = take-more (c .before .before .loop .inv) (c .before .before .before .pre) (c .before .loop-test .taken)
+loop-again c = search take-more
 
 returns : tie.Need-returns Inv-loop μ-loop
-returns c = take-whole (c .before .loop .inv) (c .loop-test .left)
+returns c = search take-whole
 
 pub gather-spec : {M : Type 1} → statement M
 gather-spec =

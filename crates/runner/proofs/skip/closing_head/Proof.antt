@@ -1,32 +1,32 @@
 -- A command is passed over whole; a return ends the sequence; a closing if opens two.
 use native.Mathlib.Omega.{arith}
-use Rattle.runner.proofs.Heads.{closing-near, first-part, head-row, first-head, last-row, give-head, pick-head}
+use Rattle.runner.proofs.Heads.{closing-there, closing-few, first-part, first-row, first-head, last-row, give-head, pick-head}
 use Rattle.runner.proofs.skip.closing_head.Statement.{statement}
 use Rattle.runner.proofs.skip.closing_head.Tie as tie
 
 shared-slice-read-k : tie.Need-shared-slice-read-k
-shared-slice-read-k c = closing-near (c .before .before .pre) .there
+shared-slice-read-k c = search closing-there
 
 command-head-requires : tie.Need-command-head-requires
-command-head-requires c κs = first-part (c .before .before .before .pre) (c .if1 .taken)
+command-head-requires c κs = search first-part
 
 runs-requires : tie.Need-runs-requires
-runs-requires c κs = head-row (first-part (c .before .before .before .before .pre) (c .before .if1 .taken)) (c .command-head .ensures)
+runs-requires c κs = search first-row
 
 returns : tie.Need-returns
-returns c = first-head (c .before .before .before .before .before .pre) (c .before .before .if1 .taken) (c .before .command-head .ensures) (c .runs .ensures)
+returns c = search first-head
 
 add-exprs : tie.Need-add-exprs
-add-exprs c = omega (arith, closing-near (c .before .before .before .pre))
+add-exprs c = omega (arith, closing-there, closing-few)
 
 exprs-requires : tie.Need-exprs-requires
-exprs-requires c κs = last-row (c .before .before .before .pre) (c .if1 .left)
+exprs-requires c κs = search last-row
 
 returns-2 : tie.Need-returns-2
-returns-2 c = give-head (c .before .before .before .before .before .pre) (c .if2 .taken) (c .before .exprs .ensures)
+returns-2 c = search give-head
 
 returns-3 : tie.Need-returns-3
-returns-3 c = pick-head (c .before .before .before .before .before .pre) (c .before .before .if1 .left) (c .if2 .left) (c .before .exprs .ensures)
+returns-3 c = search pick-head
 
 pub closing-head-spec : {M : Type 1} → statement M
 closing-head-spec =

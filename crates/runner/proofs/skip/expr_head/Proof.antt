@@ -1,54 +1,49 @@
 -- Each form's head, told by its code.
 use native.Mathlib.Omega.{arith}
-use Rattle.book.proofs.Views.{call-view}
-use Rattle.runner.proofs.Heads.{expr-near, call-left, called, constant-head, variable-head, operation-head, call-head}
 use borrow.Author.Needs.{needs}
+use Rattle.runner.proofs.Heads.{expr-there, expr-few, constant-head, variable-head, operation-head}
+use Rattle.runner.proofs.Heads.{call-there, call-entry, call-head}
 use Rattle.runner.proofs.skip.expr_head.Statement.{statement}
 use Rattle.runner.proofs.skip.expr_head.Tie as tie
 
 shared-slice-read-k : tie.Need-shared-slice-read-k
-shared-slice-read-k c = expr-near (c .before .before .pre) .there
+shared-slice-read-k c = search expr-there
 
 add-t8 : tie.Need-add-t8
-add-t8 c = omega (arith, expr-near (c .before .before .before .pre))
+add-t8 c = omega (arith, expr-there, expr-few)
 
 returns : tie.Need-returns
-returns c = constant-head (c .before .before .before .pre) (c .if1 .taken)
+returns c = search constant-head
 
 add-t9 : tie.Need-add-t9
-add-t9 c = omega (arith, expr-near (c .before .before .before .before .pre))
+add-t9 c = omega (arith, expr-there, expr-few)
 
 returns-2 : tie.Need-returns-2
-returns-2 c = variable-head (c .before .before .before .before .pre) (c .if2 .taken)
+returns-2 c = search variable-head
 
 add-t10 : tie.Need-add-t10
-add-t10 c = omega (arith, expr-near (c .before .before .before .before .before .pre))
+add-t10 c = omega (arith, expr-there, expr-few)
 
 returns-3 : tie.Need-returns-3
-returns-3 c = operation-head (c .before .before .before .before .before .pre) (c .if3 .taken)
+returns-3 c = search operation-head
 
 add-number : tie.Need-add-number
-add-number c = omega (arith, expr-near (c .before .before .before .before .before .pre))
+add-number c = omega (arith, expr-there, expr-few)
 
 shared-slice-read-number : tie.Need-shared-slice-read-number
-shared-slice-read-number c =
-    call-view (c .before .before .before .before .before .before .pre .part .here) (call-left (c .before .before .before .before .before .before .pre .part .here) (c .before .before .before .if1 .left) (c .before .before .if2 .left) (c .before .if3 .left)) .there
+shared-slice-read-number c = search call-there
 
 number-requires : tie.Need-number-requires
 number-requires c κs = search needs
 
 add-t11 : tie.Need-add-t11
-add-t11 c = omega (arith, expr-near (c .before .before .before .before .before .before .before .pre))
+add-t11 c = omega (arith, expr-there, expr-few)
 
 parameters-requires : tie.Need-parameters-requires
-parameters-requires c κs =
-    let v = call-view (c .before .before .before .before .before .before .before .pre .part .here) (call-left (c .before .before .before .before .before .before .before .pre .part .here) (c .before .before .before .before .if1 .left) (c .before .before .before .if2 .left) (c .before .before .if3 .left)) in
-    let k = called (c .before .before .before .before .before .before .before .pre .book) _ (v .known) in
-    omega (arith, k .within, c .number .ensures)
+parameters-requires c κs = search call-entry
 
 returns-4 : tie.Need-returns-4
-returns-4 c =
-    call-head (c .before .before .before .before .before .before .before .before .pre) (call-left (c .before .before .before .before .before .before .before .before .pre .part .here) (c .before .before .before .before .before .if1 .left) (c .before .before .before .before .if2 .left) (c .before .before .before .if3 .left)) (c .before .number .ensures .0) (c .parameters .ensures)
+returns-4 c = search call-head
 
 pub expr-head-spec : {M : Type 1} → statement M
 expr-head-spec =
