@@ -7,13 +7,16 @@ use Prim.Native.Nat.{ℕ, _≤_}
 use native.Mathlib.Omega.{arith}
 use borrow.Author.Tests.{leb-true}
 use lib.Dec.{leb}
-use lib.ListN.{length}
+use lib.ListN.{length, take}
+use lib.Seq.{length-take-le}
 use Rattle.meaning.specs.Tree.{Book}
 use Rattle.meaning.specs.Reading.{Reading, refused, readable, read}
 use Rattle.meaning.specs.Flow.{size}
 use Rattle.meaning.specs.Answers.{findAnswer, findBook, noFind}
 use Rattle.meaning.specs.Contracts.{FindsIn}
 use Rattle.meaning.proofs.Lists.{Tested, holds-or-fails}
+use Rattle.flow.specs.Settling.{Sized}
+use Rattle.flow.proofs.Answers.{found-here}
 
 book-fits : (b : Book) (buffer : List ℕ) → (findBook b buffer) .size ≤ length buffer
 unfolding findBook noFind
@@ -34,3 +37,10 @@ answer-fits book buffer = go (read book) refl
 pub find-fits : {book buffer after : List ℕ} {refusal places rounds : ℕ} → length after ≡ length buffer →
     FindsIn book buffer refusal places rounds after → places ≤ length after
 find-fits {book} {buffer} h f = omega (arith, f .size-is, answer-fits book buffer)
+
+-- The book is readable where a summary is found, and what is lent of the buffer has its size.
+pub found-sized : {book buffer after : List ℕ} {refusal places rounds : ℕ} → length after ≡ length buffer →
+    FindsIn book buffer refusal places rounds after → refusal ≡ 0 → Sized book (length (take places after))
+found-sized {book} {buffer} {after} {refusal} {places} h f z =
+    let s = found-here f z in
+    record { book = s .book; size-is = length-take-le places after (find-fits h f) ∙ s .size-is }

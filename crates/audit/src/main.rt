@@ -16,7 +16,11 @@ use crate::report::say_help;
 use crate::report::say_refused;
 use crate::report::say_usage;
 use flow::find;
+use reporter::LevelAnswer;
 use reporter::level;
+use reporter::level_readable;
+ghost use lib.ListN.{length};
+ghost use Rattle.flow.specs.Settling.{Sized};
 
 // One byte more than the longest book, table and summary, so that a longer file is seen to be too long.
 const BOOK: usize = 32769;
@@ -25,9 +29,8 @@ const TABLE: usize = 258;
 
 const SUMMARY: usize = 1057;
 
-// The answer by this summary; whether there is one.
-fn answer(book: &[u8], table: &[u8], procedure: u64, levels: &[u8], summary: &[u8]) -> bool {
-    let r = level(book, table, procedure, levels, summary);
+// What the reporter answered by this summary; whether there is a level.
+fn answered(r: LevelAnswer, table: &[u8], procedure: u64, levels: &[u8], summary: &[u8]) -> bool {
     if r.refusal != 0 {
         say_refused(r.refusal);
         return false;
@@ -44,19 +47,41 @@ fn answer_given(book: &[u8], table: &[u8], procedure: u64, levels: &[u8], place:
     if !got.ok {
         return;
     }
-    if answer(book, table, procedure, levels, &summary[..size]) {
+    let r = level(book, table, procedure, levels, &summary[..size]);
+    if answered(r, table, procedure, levels, &summary[..size]) {
         say_accepted(size);
     }
 }
 
-// With the least summary. Where the book is refused there is none, and the answer is that refusal.
+// With the least summary, found in so many rounds, of a book that is therefore readable.
+fn answer_least(
+    book: &[u8],
+    table: &[u8],
+    procedure: u64,
+    levels: &[u8],
+    summary: &[u8],
+    rounds: usize,
+)
+    requires { ⌜ Sized (now book) (length (now summary)) ⌝ }
+{
+    let size = summary.len();
+    let r = level_readable(book, size, table, procedure, levels, summary);
+    if answered(r, table, procedure, levels, summary) {
+        say_found(size, rounds);
+    }
+}
+
+// Where the book is refused there is no summary, and the answer is that refusal.
 fn answer_found(book: &[u8], table: &[u8], procedure: u64, levels: &[u8]) {
     let mut summary = [0u8; SUMMARY];
     let found = find(book, &mut summary);
     let size = found.size;
-    if answer(book, table, procedure, levels, &summary[..size]) {
-        say_found(size, found.rounds);
+    let rounds = found.rounds;
+    if found.refusal != 0 {
+        say_refused(found.refusal);
+        return;
     }
+    answer_least(book, table, procedure, levels, &summary[..size], rounds);
 }
 
 // The files are read, and the procedure and the levels are known.

@@ -1,12 +1,13 @@
 -- A readable book: what its bytes and its tree have to do with each other, procedure by procedure.
 use mathlib.Core.Path.{_≡_}
-use mathlib.Core.List.{List, [], _∷_}
+use mathlib.Core.List.{List}
 use mathlib.Core.Option.{some}
-use Prim.Native.Nat.{ℕ, zero, suc, _+_, _*_, _≤_, _<_}
+use Prim.Native.Nat.{ℕ, _≤_, _<_}
 use lib.ListN.{length, getD, getElem?}
 use Rattle.meaning.specs.Limits.{most-bytes, most-procedures, most-parameters, most-locals, most-loops}
-use Rattle.meaning.specs.Tree.{Procedure, Book, variables, loopsOf}
+use Rattle.meaning.specs.Tree.{Procedure, Book}
 use Rattle.meaning.specs.Reading.{Scope, entry, entries, arities, scope, procedures, contents-end, loopsAll, readable, read}
+use Rattle.meaning.proofs.Places.{rowOf}
 use Rattle.book.proofs.Text.{ClosingHere}
 
 -- The bytes are readable, as this book.
@@ -17,12 +18,6 @@ pub record BookHere (bytes : List ℕ) : Type 0 where
 -- What the body of procedure p may name.
 abbrev pub scopeOf : List ℕ → ℕ → Scope
 scopeOf bytes p = scope (arities (entries bytes)) (entry bytes p)
-
--- Where the rows of procedure p begin, if those of the first procedure begin at place k.
-unfoldable pub rowOf : ℕ → Book → ℕ → ℕ
-rowOf k [] p = k
-rowOf k (q ∷ qs) zero = k
-rowOf k (q ∷ qs) (suc p) = rowOf (k + variables q * loopsOf (q .body)) qs p
 
 pub record BookFacts (bytes : List ℕ) (g : BookHere bytes) : Type 0 where
   pub counted : length (g .book) ≡ procedures bytes

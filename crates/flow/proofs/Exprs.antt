@@ -1,20 +1,23 @@
--- The set of an expression, form by form: what the walk of its parts gives is what the rules give.
-use mathlib.Core.Path.{_≡_, refl, sym, ap, ap₂, _∙_}
-use mathlib.Core.List.{List, _∷_, _++_, append-nil}
-use Prim.Native.Nat.{ℕ, _+_, _*_, _-_, _≤_, _<_}
+-- The set of an expression, form by form, and the loop over its parts: what the walk of them gives is what the rules give.
+use mathlib.Core.Path.{_≡_, refl, sym, ap, _∙_}
+use mathlib.Core.List.{List, [], _∷_}
+use Prim.Native.Nat.{ℕ, suc, _+_, _-_, _≤_, _<_}
 use native.Mathlib.Omega.{arith}
-use native.Mathlib.Numerals.{add-one}
-use lib.ListN.{length, getD, set, take, length-set}
-use lib.Seq.{getD-take, take-suc-set, append-snoc}
-use Rattle.meaning.specs.Limits.{most-parameters}
+use lib.ListN.{length, getD, take}
+use lib.Seq.{getD-take}
+use lib.Bits.{bitOr}
+use Rattle.meaning.specs.Limits.{most-bytes}
 use Rattle.meaning.specs.Reading.{Scope, arities, entries, entry}
-use Rattle.meaning.specs.Sets.{empty, union, gather}
-use Rattle.meaning.specs.Flow.{bySets, flow, flows, at}
-use Rattle.book.proofs.Text.{ExprHere, ArgsHere}
+use Rattle.meaning.specs.Sets.{empty, union}
+use Rattle.meaning.specs.Flow.{Walk, bySets, flow, flows}
+use Rattle.meaning.specs.Tree.{Args, nil, arg}
+use Rattle.meaning.proofs.Sets.{union-assoc, union-empty-l, union-empty-r}
+use Rattle.book.proofs.Text.{ExprHere, ArgsHere, ArgsAt}
 use Rattle.book.proofs.Views.{expr-code, constant-view, variable-view, operation-view, call-view, no-args-view, args-view}
-use Rattle.book.proofs.Views.Bounds.{expr-spans}
+use Rattle.book.proofs.Views.Bounds.{expr-spans, args-spans}
 use Rattle.flow.specs.Rows.{most-variables}
-use Rattle.flow.specs.Walks.{within, Contents, ExprPre, CodedPre, ExprPost, ArgsPre, ArgsPost}
+use Rattle.flow.specs.Exprs.{within, Listed, ExprPre, CodedPre, ExprPost, ExprAnswer}
+use Rattle.flow.specs.Packed.{setIn, nextIn, Flowed}
 
 -- The same tree, where its place is told otherwise.
 abbrev pub exprMoved : {b : List ℕ} {v : Scope} {i j : ℕ} → i ≡ j → ExprHere b v j → ExprHere b v i
@@ -24,7 +27,7 @@ abbrev pub argsMoved : {b : List ℕ} {v : Scope} {n m i j : ℕ} → n ≡ m �
 argsMoved {b} {v} d e x = record { tree = x .tree; next = x .next; is = rw (d, e) (x .is) }
 
 -- What is given and where it ends, and so where the walk stands.
-expr-post : {b σ bits : List ℕ} {i given next : ℕ} → ExprPre b σ i →
+pub expr-post : {b σ bits : List ℕ} {i given next : ℕ} → ExprPre b σ i →
     ((w : ℕ) (x : ExprHere b (within b w) i) → given ≡ flow (x .tree) (bySets σ w) (take w bits)) →
     ((w : ℕ) (x : ExprHere b (within b w) i) → next ≡ x .next) → ExprPost b σ bits i given next
 expr-post p g e =
@@ -37,167 +40,13 @@ unfolding flow empty
 constant-law bits p h =
     expr-post p (λ w x. rw (constant-view x h .tree)) (λ w x. sym (constant-view x h .next))
 
-pub variable-law : {b σ bits : List ℕ} {i y s : ℕ} → ExprPre b σ i → getD b i 0 ≡ 0x11 → y ≡ getD b (i + 1) 0 → s ≡ getD bits y 0 → ExprPost b σ bits i s (i + 2)
+pub variable-law : {b σ bits : List ℕ} {i y s : ℕ} → ExprPre b σ i → getD b i 0 ≡ 0x11 → y ≡ getD b (i + 1) 0 → s ≡ getD bits y 0 →
+    ExprPost b σ bits i s (i + 2)
 unfolding flow empty
 variable-law {b} {σ} {bits} {i} {y} {s} p h k e =
     expr-post p
     (λ w x. rw (variable-view x h .tree, e, k) (sym (getD-take w bits (getD b (i + 1) 0) 0 (variable-view x h .known))))
     (λ w x. sym (variable-view x h .next))
-
-pub operation-law : {b σ bits : List ℕ} {i s t u m n : ℕ} → CodedPre 0x12 b σ i → ExprPost b σ bits (i + 2) s m → ExprPost b σ bits m t n →
-    u ≡ union s t → ExprPost b σ bits i u n
-unfolding flow
-operation-law {b} {σ} {bits} {i} {s} {t} {u} {m} {n} p l r e =
-    expr-post (p .pre)
-    (λ w x. let y = operation-view x (p .is) in rw (y .tree) (e ∙ ap₂ union (l .gave w (y .left)) (r .gave w (exprMoved (l .ends w (y .left)) (y .right)))))
-    (λ w x. let y = operation-view x (p .is) in r .ends w (exprMoved (l .ends w (y .left)) (y .right)) ∙ sym (y .next))
-
--- Where p is the procedure called and n its parameters.
-pub record Called (b : List ℕ) (i p n : ℕ) : Type 0 where
-  pub callee : p ≡ getD b (i + 1) 0
-  pub count : n ≡ (entry b p) .parameters
-
--- The arguments are counted by the contents.
-counted : {b σ : List ℕ} {i p n : ℕ} → Contents b σ → Called b i p n → getD b i 0 ≡ 0x13 → (w : ℕ) (x : ExprHere b (within b w) i) →
-    n ≡ getD (arities (entries b)) (getD b (i + 1) 0) 0
-counted {b} {σ} {i} c k h w x =
-    k .count ∙ ap (λ (q : ℕ). (entry b q) .parameters) (k .callee) ∙ sym (c .arity (getD b (i + 1) 0) (call-view x h .known))
-
-abbrev given-here : {b σ : List ℕ} {i p n : ℕ} → Contents b σ → Called b i p n → getD b i 0 ≡ 0x13 → (w : ℕ) (x : ExprHere b (within b w) i) → ArgsHere b (within b w) n (i + 2)
-given-here c k h w x = argsMoved (counted c k h w x) refl (call-view x h .given)
-
-pub call-law : {b σ bits given : List ℕ} {i p n s m : ℕ} → CodedPre 0x13 b σ i → Called b i p n → ArgsPost b σ bits n (i + 2) given m →
-    s ≡ gather (getD σ p 0) (take n given) → ExprPost b σ bits i s m
-unfolding flow flows at empty
-call-law {b} {σ} {bits} {given} {i} {p} {n} {s} {m} q k a e =
-    expr-post (q .pre)
-    (λ w x. rw (call-view x (q .is) .tree, ← k .callee) (e ∙ ap (gather (getD σ p 0)) (a .gave w (given-here (q .pre .contents) k (q .is) w x))))
-    (λ w x. a .ends w (given-here (q .pre .contents) k (q .is) w x) ∙ sym (call-view x (q .is) .next))
-
--- After k of n arguments: those that are left, and what they add.
-pub record Left (b σ bits : List ℕ) (n i k next : ℕ) (given : List ℕ) (w : ℕ) (x : ArgsHere b (within b w) n i) : Type 0 where
-  pub here : ArgsHere b (within b w) (n - k) next
-  pub gave : take k given ++ flows (here .tree) (bySets σ w) (take w bits) ≡ flows (x .tree) (bySets σ w) (take w bits)
-  pub ends : here .next ≡ x .next
-
-pub record Giving (b σ bits : List ℕ) (n i k next : ℕ) (given : List ℕ) : Type 0 where
-  pub long : length given ≡ most-parameters
-  pub count : k ≤ n
-  pub on : i ≤ next
-  pub left : (w : ℕ) (x : ArgsHere b (within b w) n i) → Left b σ bits n i k next given w x
-
-pub giving-none : (b σ bits : List ℕ) (n i : ℕ) (given : List ℕ) → length given ≡ most-parameters → Giving b σ bits n i 0 i given
-giving-none b σ bits n i given h =
-    record {
-      long = h;
-      count = omega arith;
-      on = omega arith;
-      left = λ w x. record { here = argsMoved (omega arith) refl x; gave = refl; ends = refl };
-    }
-
-one-more : (given : List ℕ) (k s : ℕ) (l : List ℕ) → k < length given → take (k + 1) (set given k s) ++ l ≡ take k given ++ (s ∷ l)
-one-more given k s l h = rw (add-one, take-suc-set given k s h) (append-snoc (take k given) s l)
-
-left-more : {b σ bits : List ℕ} {n i k next : ℕ} {given : List ℕ} {s m w : ℕ} {x : ArgsHere b (within b w) n i} →
-    Left b σ bits n i k next given w x → 0 < n - k → k < length given → ExprPost b σ bits next s m → Left b σ bits n i (k + 1) m (set given k s) w x
-unfolding flows
-left-more {b} {σ} {bits} {n} {i} {k} {next} {given} {s} {m} {w} {x} f h l p =
-    let y = args-view (f .here) h in
-    let q = y .some in
-    record {
-      here = argsMoved (omega arith) (p .ends w (y .head)) (y .rest);
-      gave =
-          one-more given k s (flows (y .rest .tree) (bySets σ w) (take w bits)) l
-          ∙ ap (λ (a : ℕ). take k given ++ (a ∷ flows (y .rest .tree) (bySets σ w) (take w bits))) (p .gave w (y .head))
-          ∙ ap (λ t. take k given ++ flows t (bySets σ w) (take w bits)) (sym (y .tree))
-          ∙ f .gave;
-      ends = sym (y .next) ∙ f .ends;
-    }
-
-pub giving-more : {b σ bits : List ℕ} {n i k next : ℕ} {given : List ℕ} {s m : ℕ} →
-    Giving b σ bits n i k next given → k < n → n ≤ most-parameters → ExprPost b σ bits next s m → Giving b σ bits n i (k + 1) m (set given k s)
-giving-more {b} {σ} {bits} {n} {i} {k} {next} {given} {s} {m} g h f p =
-    record {
-      long = length-set given k s ∙ g .long;
-      count = omega arith;
-      on = omega (arith, g .on, p .on);
-      left = λ w x. left-more (g .left w x) (omega arith) (omega (arith, g .long)) p;
-    }
-
-pub giving-done : {b σ bits : List ℕ} {n i k next : ℕ} {given : List ℕ} → Giving b σ bits n i k next given → n ≤ k → ArgsPost b σ bits n i given next
-unfolding flows
-giving-done {b} {σ} {bits} {n} {i} {k} {next} {given} g h =
-    record {
-      long = g .long;
-      gave = λ w x.
-          let y = g .left w x in
-          let z = no-args-view (y .here) (omega arith) in
-          let e : n ≡ k = omega (arith, g .count) in
-          ap (λ (m : ℕ). take m given) e
-          ∙ sym (append-nil (take k given))
-          ∙ ap (λ t. take k given ++ flows t (bySets σ w) (take w bits)) (sym (z .tree))
-          ∙ y .gave;
-      ends = λ w x.
-          let y = g .left w x in
-          let z = no-args-view (y .here) (omega arith) in
-          sym (z .next) ∙ y .ends;
-    }
-
--- What the walk of the next argument asks.
-pub giving-pre : {b σ bits : List ℕ} {n i k next : ℕ} {given : List ℕ} → ArgsPre b σ n i → Giving b σ bits n i k next given → k < n → ExprPre b σ next
-giving-pre p g h =
-    let y = g .left (p .w) (p .here) in
-    record { contents = p .contents; w = p .w; narrow = p .narrow; here = args-view (y .here) (omega arith) .head }
-
-pub left-pre : {b σ : List ℕ} {i : ℕ} → CodedPre 0x12 b σ i → ExprPre b σ (i + 2)
-left-pre p =
-    record { contents = p .pre .contents; w = p .pre .w; narrow = p .pre .narrow; here = operation-view (p .pre .here) (p .is) .left }
-
-pub right-pre : {b σ bits : List ℕ} {i s m : ℕ} → CodedPre 0x12 b σ i → ExprPost b σ bits (i + 2) s m → ExprPre b σ m
-right-pre p l =
-    let y = operation-view (p .pre .here) (p .is) in
-    record { contents = p .pre .contents; w = p .pre .w; narrow = p .pre .narrow; here = exprMoved (l .ends (p .pre .w) (y .left)) (y .right) }
-
-pub args-pre : {b σ : List ℕ} {i p n : ℕ} → CodedPre 0x13 b σ i → Called b i p n → ArgsPre b σ n (i + 2)
-args-pre {b} {σ} {i} {p} {n} q k =
-    let c = q .pre .contents in
-    let y = call-view (q .pre .here) (q .is) in
-    record {
-      contents = c;
-      w = q .pre .w;
-      narrow = q .pre .narrow;
-      few = rw (k .count, k .callee) (c .few (getD b (i + 1) 0) (y .known));
-      here = given-here c k (q .is) (q .pre .w) (q .pre .here);
-    }
-
--- The last code that an expression may have.
-pub call-pre : {b σ : List ℕ} {i : ℕ} → ExprPre b σ i → (getD b i 0 ≡ 0x10 → ⊥) → (getD b i 0 ≡ 0x11 → ⊥) → (getD b i 0 ≡ 0x12 → ⊥) → CodedPre 0x13 b σ i
-call-pre p x y z =
-    let h = expr-code (p .here) in
-    record { pre = p; is = omega arith }
-
-pub record CallFacts (b σ : List ℕ) (i p : ℕ) : Type 0 where
-  pub there : i + 1 < length b
-  pub result : p < length σ
-  pub entry-there : 1 + 6 * p + 5 < length b
-
-pub call-facts : {b σ : List ℕ} {i p : ℕ} → CodedPre 0x13 b σ i → p ≡ getD b (i + 1) 0 → CallFacts b σ i p
-call-facts {b} {σ} {i} {p} q e =
-    let c = q .pre .contents in
-    let y = call-view (q .pre .here) (q .is) in
-    let k = y .known in
-    let r = c .room in
-    let s = c .results in
-    record { there = y .there; result = omega arith; entry-there = omega arith }
-
-pub call-there : {b σ : List ℕ} {i : ℕ} → CodedPre 0x13 b σ i → i + 1 < length b
-call-there q = call-view (q .pre .here) (q .is) .there
-
-pub operation-there : {b σ : List ℕ} {i : ℕ} → CodedPre 0x12 b σ i → i + 1 < length b
-operation-there p = operation-view (p .pre .here) (p .is) .there
-
-pub constant-there : {b σ : List ℕ} {i : ℕ} → ExprPre b σ i → getD b i 0 ≡ 0x10 → i + 5 ≤ length b
-constant-there p h = constant-view (p .here) h .fits
 
 pub record VariableFacts (b : List ℕ) (i : ℕ) : Type 0 where
   pub there : i + 1 < length b
@@ -210,5 +59,212 @@ variable-facts p h =
     let n = p .narrow in
     record { there = y .there; known = omega arith }
 
-pub expr-there : {b σ : List ℕ} {i : ℕ} → ExprPre b σ i → i < length b
-expr-there p = expr-code (p .here) .there
+-- Each part takes a byte at the least, so no more parts are open than bytes are left.
+pub counted-args : (es : Args) (b : List ℕ) (v : Scope) (n at next : ℕ) → ArgsAt es b v n at next → at + n ≤ next
+unfolding ArgsAt
+counted-args nil b v n at next x = omega arith
+counted-args (arg e es) b v n at next x =
+    let h = expr-spans (record { tree = e; next = x .mid; is = x .head }) in
+    let k = counted-args es b v (x .fewer) (x .mid) next (x .rest) in
+    omega arith
+
+-- No part, and one part before others.
+pub none-at : (b : List ℕ) (v : Scope) (i : ℕ) → i ≤ length b → ArgsAt nil b v 0 i i
+unfolding ArgsAt
+none-at b v i h = record { none = refl; fits = h; ends = refl }
+
+abbrev pub none-here : {b : List ℕ} {v : Scope} (i : ℕ) → i ≤ length b → ArgsHere b v 0 i
+none-here {b} {v} i h = record { tree = nil; next = i; is = none-at b v i h }
+
+pub more-at : {b : List ℕ} {v : Scope} (k m : ℕ) {i : ℕ} (x : ExprHere b v i) → k ≡ suc m → (y : ArgsHere b v m (x .next)) →
+    ArgsAt (arg (x .tree) (y .tree)) b v k i (y .next)
+unfolding ArgsAt
+more-at k m x e y = record { fewer = m; some = e; mid = x .next; head = x .is; rest = y .is }
+
+abbrev pub more-here : {b : List ℕ} {v : Scope} (k m : ℕ) {i : ℕ} (x : ExprHere b v i) → k ≡ suc m → ArgsHere b v m (x .next) → ArgsHere b v k i
+more-here k m x e y = record { tree = arg (x .tree) (y .tree); next = y .next; is = more-at k m x e y }
+
+-- The arguments of a call stand before the parts that were open behind it.
+unfoldable pub before : Args → Args → Args
+before nil fs = fs
+before (arg e es) fs = arg e (before es fs)
+
+pub before-at : (es fs : Args) (b : List ℕ) (v : Scope) (n m at mid next : ℕ) → ArgsAt es b v n at mid → ArgsAt fs b v m mid next →
+    ArgsAt (before es fs) b v (n + m) at next
+unfolding ArgsAt before
+before-at nil fs b v n m at mid next x y =
+    let e : n + m ≡ m = omega (arith, x .none) in
+    rw (e, ← x .ends) y
+before-at (arg e es) fs b v n m at mid next x y =
+    let k = x .some in
+    record {
+      fewer = x .fewer + m;
+      some = omega arith;
+      mid = x .mid;
+      head = x .head;
+      rest = before-at es fs b v (x .fewer) m (x .mid) mid next (x .rest) y;
+    }
+
+abbrev pub before-here : {b : List ℕ} {v : Scope} (n m : ℕ) {i : ℕ} (x : ArgsHere b v n i) → ArgsHere b v m (x .next) → ArgsHere b v (n + m) i
+before-here {b} {v} n m {i} x y =
+    record {
+      tree = before (x .tree) (y .tree);
+      next = y .next;
+      is = before-at (x .tree) (y .tree) b v n m i (x .next) (y .next) (x .is) (y .is);
+    }
+
+pub length-flows : (es : Args) (b : List ℕ) (v : Scope) (n at next : ℕ) (W : Walk ℕ) (Γ : List ℕ) → ArgsAt es b v n at next → length (flows es W Γ) ≡ n
+unfolding flows ArgsAt
+length-flows nil b v n at next W Γ x = sym (x .none)
+length-flows (arg e es) b v n at next W Γ x = ap suc (length-flows es b v (x .fewer) (x .mid) next W Γ (x .rest)) ∙ sym (x .some)
+
+-- What the parts still open add: the union of their sets.
+unfoldable pub all : List ℕ → ℕ
+all [] = empty
+all (s ∷ l) = union s (all l)
+
+-- Parts still open, as the arguments of a call stand: k of them, one after the other.
+pub record Opened (b σ bits : List ℕ) (i k j s w : ℕ) (x : ExprHere b (within b w) i) : Type 0 where
+  pub here : ArgsHere b (within b w) k j
+  pub gave : union s (all (flows (here .tree) (bySets σ w) (take w bits))) ≡ flow (x .tree) (bySets σ w) (take w bits)
+  pub ends : here .next ≡ x .next
+
+-- The walk of the expression at i, where k parts are still open, the next of them at j, and s is the set of those that are closed.
+pub record Open (b σ bits : List ℕ) (i k j s : ℕ) : Type 0 where
+  pub pre : ExprPre b σ i
+  pub on : i ≤ j
+  pub room : j + k ≤ length b
+  pub short : length b ≤ most-bytes
+  pub left : (w : ℕ) (x : ExprHere b (within b w) i) → Opened b σ bits i k j s w x
+
+opened-room : {b σ bits : List ℕ} {i k j s : ℕ} (p : ExprPre b σ i) → Opened b σ bits i k j s (p .w) (p .here) → j + k ≤ length b
+opened-room {b} {σ} {bits} {i} {k} {j} p l =
+    let h = counted-args (l .here .tree) b (within b (p .w)) k j (l .here .next) (l .here .is) in
+    let n = args-spans (l .here) in
+    omega arith
+
+open-all : {b σ bits : List ℕ} {i k j s : ℕ} → ExprPre b σ i → i ≤ j → ((w : ℕ) (x : ExprHere b (within b w) i) → Opened b σ bits i k j s w x) →
+    Open b σ bits i k j s
+open-all p h f = record { pre = p; on = h; room = opened-room p (f (p .w) (p .here)); short = p .contents .listed .short; left = f }
+
+-- At first the expression itself is open.
+pub open-none : {b σ : List ℕ} (bits : List ℕ) {i : ℕ} → ExprPre b σ i → Open b σ bits i 1 i 0
+unfolding flows all empty
+open-none {b} {σ} bits {i} p =
+    open-all p (omega arith)
+    (λ w x. record {
+      here = more-here 1 0 x refl (none-here (x .next) (expr-spans x .within));
+      gave = union-empty-l (union (flow (x .tree) (bySets σ w) (take w bits)) 0) ∙ union-empty-r (flow (x .tree) (bySets σ w) (take w bits));
+      ends = refl;
+    })
+
+-- An operation: its two operands are open in its place.
+pub open-two : {b σ bits : List ℕ} {i k j s : ℕ} → Open b σ bits i k j s → 0 < k → getD b j 0 ≡ 0x12 → Open b σ bits i (k + 1) (j + 2) s
+unfolding flow flows all
+open-two {b} {σ} {bits} {i} {k} {j} {s} q h e =
+    open-all (q .pre) (omega (arith, q .on))
+    (λ w x.
+    let l = q .left w x in
+    let y = args-view (l .here) h in
+    let n = y .some in
+    let z = operation-view (y .head) e in
+    let W = bySets σ w in
+    let Γ = take w bits in
+    record {
+      here = more-here (k + 1) k (z .left) (omega arith) (more-here k (y .fewer) (z .right) n (argsMoved refl (sym (z .next)) (y .rest)));
+      gave =
+          ap (union s) (sym (union-assoc (flow (z .left .tree) W Γ) (flow (z .right .tree) W Γ) (all (flows (y .rest .tree) W Γ))))
+          ∙ ap (λ t. union s (union (flow t W Γ) (all (flows (y .rest .tree) W Γ)))) (sym (z .tree))
+          ∙ ap (λ t. union s (all (flows t W Γ))) (sym (y .tree))
+          ∙ l .gave;
+      ends = sym (y .next) ∙ l .ends;
+    })
+
+-- A part whose set is known is closed.
+open-one : {b σ bits : List ℕ} {i k j s u v m : ℕ} → Open b σ bits i k j s → 0 < k → ExprPost b σ bits j v m → u ≡ union s v →
+    Open b σ bits i (k - 1) m u
+unfolding flows all
+open-one {b} {σ} {bits} {i} {k} {j} {s} {u} {v} {m} q h p e =
+    open-all (q .pre) (omega (arith, q .on, p .on))
+    (λ w x.
+    let l = q .left w x in
+    let y = args-view (l .here) h in
+    let n = y .some in
+    let W = bySets σ w in
+    let Γ = take w bits in
+    record {
+      here = argsMoved (omega arith) (p .ends w (y .head)) (y .rest);
+      gave =
+          ap (λ (t : ℕ). union t (all (flows (y .rest .tree) W Γ))) e
+          ∙ union-assoc s v (all (flows (y .rest .tree) W Γ))
+          ∙ ap (λ (t : ℕ). union s (union t (all (flows (y .rest .tree) W Γ)))) (p .gave w (y .head))
+          ∙ ap (λ t. union s (all (flows t W Γ))) (sym (y .tree))
+          ∙ l .gave;
+      ends = sym (y .next) ∙ l .ends;
+    })
+
+-- Where the next open part stands.
+open-pre : {b σ bits : List ℕ} {i k j s : ℕ} → Open b σ bits i k j s → 0 < k → ExprPre b σ j
+open-pre q h =
+    let p = q .pre in
+    record { contents = p .contents; w = p .w; narrow = p .narrow; here = args-view (q .left (p .w) (p .here) .here) h .head }
+
+pub open-variable : {b σ bits : List ℕ} {i k j s y : ℕ} → Open b σ bits i k j s → 0 < k → getD b j 0 ≡ 0x11 → y ≡ getD b (j + 1) 0 →
+    Open b σ bits i (k - 1) (j + 2) (bitOr s (getD bits y 0))
+unfolding union
+open-variable q h c e = open-one q h (variable-law (open-pre q h) c e refl) refl
+
+pub open-variable-there : {b σ bits : List ℕ} {i k j s : ℕ} → Open b σ bits i k j s → 0 < k → getD b j 0 ≡ 0x11 → j + 1 < length b
+open-variable-there q h c = variable-view (open-pre q h .here) c .there
+
+pub open-variable-known : {b σ bits : List ℕ} {i k j s y : ℕ} → Open b σ bits i k j s → 0 < k → getD b j 0 ≡ 0x11 → y ≡ getD b (j + 1) 0 →
+    y < most-variables
+open-variable-known q h c e = omega (arith, variable-view (open-pre q h .here) c .known, open-pre q h .narrow)
+
+pub open-constant : {b σ bits : List ℕ} {i k j s : ℕ} → Open b σ bits i k j s → 0 < k → getD b j 0 ≡ 0x10 → Open b σ bits i (k - 1) (j + 5) s
+unfolding empty
+open-constant {b} {σ} {bits} {i} {k} {j} {s} q h c = open-one q h (constant-law bits (open-pre q h) c) (sym (union-empty-r s))
+
+-- The last code that an expression may have.
+pub open-call-pre : {b σ bits : List ℕ} {i k j s : ℕ} → Open b σ bits i k j s → 0 < k → (getD b j 0 ≡ 0x12 → ⊥) → (getD b j 0 ≡ 0x11 → ⊥) →
+    (getD b j 0 ≡ 0x10 → ⊥) → CodedPre 0x13 b σ j
+open-call-pre q h x y z =
+    let p = open-pre q h in
+    let e = expr-code (p .here) in
+    record { pre = p; there = e .there; is = omega arith }
+
+pub open-call : {b σ bits : List ℕ} {i k j s r v m : ℕ} → Open b σ bits i k j s → 0 < k → ExprAnswer b σ bits j r → v ≡ setIn r → m ≡ nextIn r →
+    Open b σ bits i (k - 1) m (bitOr s v)
+unfolding union
+open-call {b} {σ} {bits} {i} {k} {j} {s} {r} {v} {m} q h p e f = rw (e, f) (open-one q h (p .is) refl)
+
+-- Where p is the procedure called and n its parameters.
+pub record Called (b : List ℕ) (i p n : ℕ) : Type 0 where
+  pub callee : p ≡ getD b (i + 1) 0
+  pub count : n ≡ (entry b p) .parameters
+
+-- The arguments are counted by the contents.
+pub counted : {b : List ℕ} {i p n : ℕ} → Listed b → Called b i p n → getD b i 0 ≡ 0x13 → (w : ℕ) (x : ExprHere b (within b w) i) →
+    n ≡ getD (arities (entries b)) (getD b (i + 1) 0) 0
+counted {b} {i} c k h w x =
+    k .count ∙ ap (λ (q : ℕ). (entry b q) .parameters) (k .callee) ∙ sym (c .arity (getD b (i + 1) 0) (call-view x h .known))
+
+abbrev pub given-here : {b : List ℕ} {i p n : ℕ} → Listed b → Called b i p n → getD b i 0 ≡ 0x13 → (w : ℕ) (x : ExprHere b (within b w) i) →
+    ArgsHere b (within b w) n (i + 2)
+given-here c k h w x = argsMoved (counted c k h w x) refl (call-view x h .given)
+
+pub flowed-post : {b σ bits : List ℕ} {i s n r : ℕ} → ExprPost b σ bits i s n → Flowed s n r → ExprAnswer b σ bits i r
+flowed-post p f = record { is = rw (f .set-is, f .next-is) p }
+
+pub open-returns : {b σ bits : List ℕ} {i k j s r : ℕ} → Open b σ bits i k j s → k ≤ 0 → Flowed s j r → ExprAnswer b σ bits i r
+unfolding flows all empty
+open-returns {b} {σ} {bits} {i} {k} {j} {s} q h f =
+    flowed-post
+    (expr-post (q .pre)
+    (λ w x.
+    let l = q .left w x in
+    sym (union-empty-r s)
+    ∙ ap (λ t. union s (all (flows t (bySets σ w) (take w bits)))) (sym (no-args-view (l .here) (omega arith) .tree))
+    ∙ l .gave)
+    (λ w x. let l = q .left w x in sym (no-args-view (l .here) (omega arith) .next) ∙ l .ends))
+    f

@@ -1,4 +1,9 @@
 pub mod Rows
+pub mod Copies
+pub mod Packed
+pub mod Exprs
 pub mod Walks
 pub mod Rounds
-pub mod Copies
+pub mod Legality
+pub mod Waking
+pub mod Settling

@@ -1,117 +1,166 @@
--- What the walk's functions ask and give. Each is asked at a place that holds a tree, and what it gives is said of whatever tree the place holds.
+-- What the walk's functions ask and give. Each is asked where a tree stands, and what it gives is said of whatever tree stands there.
 use mathlib.Core.Path.{_≡_}
 use mathlib.Core.List.{List}
 use Prim.Native.Nat.{ℕ, _+_, _*_, _≤_, _<_}
 use lib.ListN.{length, getD, take}
-use Rattle.meaning.specs.Limits.{most-parameters, entry-bytes}
-use Rattle.meaning.specs.Reading.{Scope, entry, entries, arities}
 use Rattle.meaning.specs.Tree.{loops, loopsIn, loopsOf}
-use Rattle.meaning.specs.Flow.{bySets, flow, flows, after, afters, needs, needsIn, ends as returned, arriving, grow}
-use Rattle.book.proofs.Text.{ExprHere, ArgsHere, CmdHere, RunHere, ClosingHere}
-use Rattle.flow.specs.Rows.{most-variables, Wide}
+use Rattle.meaning.specs.Flow.{Walk, bySets, after, afters, needs, needsIn, ends as returned, arriving, grow}
+use Rattle.book.proofs.Text.{CmdHere, RunHere, ClosingHere}
+use Rattle.flow.specs.Rows.{most-variables, Wide, Held}
+use Rattle.flow.specs.Copies.{most-places}
+use Rattle.flow.specs.Exprs.{within, Contents}
+use Rattle.flow.specs.Packed.{atIn, rowIn}
 
--- What a body with w variables may name.
-abbrev pub within : List ℕ → ℕ → Scope
-within b w = record { variables = w; arities = arities (entries b) }
+-- What a walk goes by: the book, the summary as it stood, and how many variables the procedure has.
+pub record Going : Type 0 where
+  pub book : List ℕ
+  pub old : List ℕ
+  pub width : ℕ
 
-abbrev pub procedureCount : List ℕ → ℕ
-procedureCount b = length (arities (entries b))
+abbrev pub going : List ℕ → List ℕ → ℕ → Going
+going b σ w = record { book = b; old = σ; width = w }
 
--- What the walk reads of a book's contents, and that the summary has a result for each procedure.
-pub record Contents (b σ : List ℕ) : Type 0 where
-  pub room : 1 + entry-bytes * procedureCount b ≤ length b
-  pub arity : (p : ℕ) → p < procedureCount b → getD (arities (entries b)) p 0 ≡ (entry b p) .parameters
-  pub few : (p : ℕ) → p < procedureCount b → (entry b p) .parameters ≤ most-parameters
-  pub results : procedureCount b ≤ length σ
+-- Where a walk stands: its place in the book, the place of the next row, the new summary and the variables' sets.
+pub record Standing : Type 0 where
+  pub at : ℕ
+  pub row : ℕ
+  pub new : List ℕ
+  pub sets : List ℕ
 
-pub record ExprPre (b σ : List ℕ) (at : ℕ) : Type 0 where
-  pub contents : Contents b σ
-  pub w : ℕ
-  pub narrow : w ≤ most-variables
-  pub here : ExprHere b (within b w) at
+abbrev pub standing : ℕ → ℕ → List ℕ → List ℕ → Standing
+standing i k new sets = record { at = i; row = k; new = new; sets = sets }
 
--- The same, where the code is known.
-pub record CodedPre (code : ℕ) (b σ : List ℕ) (at : ℕ) : Type 0 where
-  pub pre : ExprPre b σ at
-  pub is : getD b at 0 ≡ code
+-- The walk of the rules, the sets in use, and the part that stands there.
+abbrev pub rules : Going → Walk ℕ
+rules G = bySets (G .old) (G .width)
 
--- The expression at this place has the set `given`, and the next part begins at `next`.
-pub record ExprPost (b σ bits : List ℕ) (at given next : ℕ) : Type 0 where
-  pub gave : (w : ℕ) (x : ExprHere b (within b w) at) → given ≡ flow (x .tree) (bySets σ w) (take w bits)
-  pub ends : (w : ℕ) (x : ExprHere b (within b w) at) → next ≡ x .next
-  pub on : at < next
-  pub inside : next ≤ length b
+abbrev pub used : Going → Standing → List ℕ
+used G S = take (G .width) (S .sets)
 
-pub record ArgsPre (b σ : List ℕ) (n at : ℕ) : Type 0 where
-  pub contents : Contents b σ
-  pub w : ℕ
-  pub narrow : w ≤ most-variables
-  pub few : n ≤ most-parameters
-  pub here : ArgsHere b (within b w) n at
+abbrev pub CmdAt : Going → Standing → Type 0
+CmdAt G S = CmdHere (G .book) (within (G .book) (G .width)) (S .row) (S .at)
 
--- The n arguments at this place have the first n of these sets.
-pub record ArgsPost (b σ bits : List ℕ) (n at : ℕ) (given : List ℕ) (next : ℕ) : Type 0 where
-  pub long : length given ≡ most-parameters
-  pub gave : (w : ℕ) (x : ArgsHere b (within b w) n at) → take n given ≡ flows (x .tree) (bySets σ w) (take w bits)
-  pub ends : (w : ℕ) (x : ArgsHere b (within b w) n at) → next ≡ x .next
+abbrev pub RunAt : Going → Standing → Type 0
+RunAt G S = RunHere (G .book) (within (G .book) (G .width)) (S .row) (S .at)
+
+abbrev pub ClosingAt : Going → Standing → Type 0
+ClosingAt G S = ClosingHere (G .book) (within (G .book) (G .width)) (S .row) (S .at)
 
 -- Each of the first w sets is added to the row at place k, whatever summary the walk goes by.
-pub record Raised (new : List ℕ) (k w : ℕ) (bits new′ : List ℕ) : Type 0 where
-  pub added : (σ : List ℕ) → new′ ≡ grow new (arriving (bySets σ w) k (take w bits))
+pub record Raised (new : List ℕ) (k w : ℕ) (sets new′ : List ℕ) : Type 0 where
+  pub added : (σ : List ℕ) → new′ ≡ grow new (arriving (bySets σ w) k (take w sets))
+  pub long : length new′ ≡ length new
 
--- What every part of a body asks: the old summary and the new have one size, and the sets at hand are those of w variables.
-pub record Ready (b σ new : List ℕ) (w : ℕ) (bits : List ℕ) : Type 0 where
-  pub contents : Contents b σ
+-- A row of w sets at place k lies within what has so many places.
+pub record RowFits (k w places : ℕ) : Type 0 where
   pub narrow : w ≤ most-variables
-  pub wide : Wide bits
-  pub sized : length new ≡ length σ
+  pub fits : k + w ≤ places
 
-pub record CmdPre (b σ new : List ℕ) (row at w : ℕ) (bits : List ℕ) : Type 0 where
-  pub ready : Ready b σ new w bits
-  pub here : CmdHere b (within b w) row at
-  pub room : row + w * loops (here .tree) ≤ length σ
+pub record ArrivePre (σ new : List ℕ) (k w : ℕ) (sets : List ℕ) : Type 0 where
+  pub held : RowFits k w (length σ)
+  pub room : RowFits k w (length new)
+  pub old-wide : length σ ≡ most-places
+  pub new-wide : length new ≡ most-places
+  pub wide : Wide sets
 
-pub record CmdCodedPre (code : ℕ) (b σ new : List ℕ) (row at w : ℕ) (bits : List ℕ) : Type 0 where
-  pub pre : CmdPre b σ new row at w bits
-  pub is : getD b at 0 ≡ code
+-- The sets are added to the row at place k, and those at hand are the old row's.
+pub record Arrived (σ new : List ℕ) (k w : ℕ) (sets new′ sets′ : List ℕ) : Type 0 where
+  pub raised : Raised new k w sets new′
+  pub held : Held σ k w sets′
 
--- What the command at this place adds to the new summary, the sets after it, where the next part begins and the place of the next row.
-pub record CmdPost (b σ new : List ℕ) (row at w : ℕ) (bits : List ℕ) (g : ℕ) (new′ bits′ : List ℕ) (next row′ : ℕ) : Type 0 where
-  pub wide : Wide bits′
-  pub added : (x : CmdHere b (within b w) row at) → new′ ≡ grow new (needs (x .tree) (bySets σ w) (take w bits) g)
-  pub sets : (x : CmdHere b (within b w) row at) → take w bits′ ≡ after (x .tree) (bySets σ w) (take w bits) g
-  pub ends : (x : CmdHere b (within b w) row at) → next ≡ x .next
-  pub rows : (x : CmdHere b (within b w) row at) → row′ ≡ row + w * loops (x .tree)
+-- What every part of a body asks: the old summary and the new have one size, and the sets at hand are as many as any.
+pub record Ready (G : Going) (S : Standing) : Type 0 where
+  pub contents : Contents (G .book) (G .old)
+  pub narrow : G .width ≤ most-variables
+  pub wide : Wide (S .sets)
+  pub sized : length (S .new) ≡ length (G .old)
+
+pub record CmdPre (G : Going) (S : Standing) : Type 0 where
+  pub ready : Ready G S
+  pub here : CmdAt G S
+  pub room : S .row + G .width * loops (here .tree) ≤ length (G .old)
+
+pub record CmdCodedPre (code : ℕ) (G : Going) (S : Standing) : Type 0 where
+  pub pre : CmdPre G S
+  pub there : S .at < length (G .book)
+  pub is : getD (G .book) (S .at) 0 ≡ code
+
+-- A loop, whose row lies within the summary.
+pub record LoopPre (G : Going) (S : Standing) : Type 0 where
+  pub coded : CmdCodedPre 0x03 G S
+  pub fits : S .row + G .width ≤ length (G .old)
+
+-- An if or a loop.
+pub record NestedPre (G : Going) (S : Standing) : Type 0 where
+  pub pre : CmdPre G S
+  pub there : S .at < length (G .book)
+  pub other : getD (G .book) (S .at) 0 ≡ 0x01 → ⊥
+
+-- What a command under the guard g adds to the new summary, the sets after it, where the next part begins and the place of the next row.
+pub record CmdPost (G : Going) (g : ℕ) (S T : Standing) : Type 0 where
+  pub wide : Wide (T .sets)
+  pub added : (x : CmdAt G S) → T .new ≡ grow (S .new) (needs (x .tree) (rules G) (used G S) g)
+  pub sets : (x : CmdAt G S) → used G T ≡ after (x .tree) (rules G) (used G S) g
+  pub ends : (x : CmdAt G S) → T .at ≡ x .next
+  pub rows : (x : CmdAt G S) → T .row ≡ S .row + G .width * loops (x .tree)
+  pub long : length (T .new) ≡ length (S .new)
+  pub on : S .at < T .at
+  pub inside : T .at ≤ length (G .book)
+
+-- The same of an answer in one number.
+pub record CmdAnswer (G : Going) (g : ℕ) (S : Standing) (new′ sets′ : List ℕ) (r : ℕ) : Type 0 where
+  pub is : CmdPost G g S (standing (atIn r) (rowIn r) new′ sets′)
+
+-- An assignment, in whatever body and over whatever new summary: it changes one set, and adds nothing.
+pub record AssignPre (b σ : List ℕ) (at : ℕ) (sets : List ℕ) : Type 0 where
+  pub new : List ℕ
+  pub row : ℕ
+  pub w : ℕ
+  pub coded : CmdCodedPre 0x01 (going b σ w) (standing at row new sets)
+
+pub record AssignPost (b σ : List ℕ) (at : ℕ) (sets : List ℕ) (g : ℕ) (sets′ : List ℕ) (next : ℕ) : Type 0 where
+  pub is : (new : List ℕ) (row w : ℕ) → CmdCodedPre 0x01 (going b σ w) (standing at row new sets) →
+      CmdPost (going b σ w) g (standing at row new sets) (standing next row new sets′)
   pub on : at < next
-  pub inside : next ≤ length b
 
-pub record RunPre (b σ new : List ℕ) (row at w : ℕ) (bits : List ℕ) : Type 0 where
-  pub ready : Ready b σ new w bits
-  pub here : RunHere b (within b w) row at
-  pub room : row + w * loopsIn (here .tree) ≤ length σ
+pub record RunPre (G : Going) (S : Standing) : Type 0 where
+  pub ready : Ready G S
+  pub here : RunAt G S
+  pub room : S .row + G .width * loopsIn (here .tree) ≤ length (G .old)
 
-pub record RunPost (b σ new : List ℕ) (row at w : ℕ) (bits : List ℕ) (g : ℕ) (new′ bits′ : List ℕ) (next row′ : ℕ) : Type 0 where
-  pub wide : Wide bits′
-  pub added : (x : RunHere b (within b w) row at) → new′ ≡ grow new (needsIn (x .tree) (bySets σ w) (take w bits) g)
-  pub sets : (x : RunHere b (within b w) row at) → take w bits′ ≡ afters (x .tree) (bySets σ w) (take w bits) g
-  pub ends : (x : RunHere b (within b w) row at) → next ≡ x .next
-  pub rows : (x : RunHere b (within b w) row at) → row′ ≡ row + w * loopsIn (x .tree)
-  pub on : at < next
-  pub inside : next ≤ length b
+pub record RunPost (G : Going) (g : ℕ) (S T : Standing) : Type 0 where
+  pub wide : Wide (T .sets)
+  pub added : (x : RunAt G S) → T .new ≡ grow (S .new) (needsIn (x .tree) (rules G) (used G S) g)
+  pub sets : (x : RunAt G S) → used G T ≡ afters (x .tree) (rules G) (used G S) g
+  pub ends : (x : RunAt G S) → T .at ≡ x .next
+  pub rows : (x : RunAt G S) → T .row ≡ S .row + G .width * loopsIn (x .tree)
+  pub long : length (T .new) ≡ length (S .new)
+  pub on : S .at < T .at
+  pub inside : T .at ≤ length (G .book)
 
-pub record ClosingPre (b σ new : List ℕ) (row at w p : ℕ) (bits : List ℕ) : Type 0 where
-  pub ready : Ready b σ new w bits
-  pub here : ClosingHere b (within b w) row at
-  pub room : row + w * loopsOf (here .tree) ≤ length σ
-  pub result : p < length σ
+pub record RunAnswer (G : Going) (g : ℕ) (S : Standing) (new′ sets′ : List ℕ) (r : ℕ) : Type 0 where
+  pub is : RunPost G g S (standing (atIn r) (rowIn r) new′ sets′)
 
-pub record ClosingCodedPre (code : ℕ) (b σ new : List ℕ) (row at w p : ℕ) (bits : List ℕ) : Type 0 where
-  pub pre : ClosingPre b σ new row at w p bits
-  pub is : getD b at 0 ≡ code
+-- A closing sequence of procedure p.
+pub record ClosingPre (G : Going) (p : ℕ) (S : Standing) : Type 0 where
+  pub ready : Ready G S
+  pub here : ClosingAt G S
+  pub room : S .row + G .width * loopsOf (here .tree) ≤ length (G .old)
+  pub result : p < length (G .old)
 
-pub record ClosingPost (b σ new : List ℕ) (row at w p : ℕ) (bits : List ℕ) (g : ℕ) (new′ : List ℕ) (next row′ : ℕ) : Type 0 where
-  pub added : (x : ClosingHere b (within b w) row at) → new′ ≡ grow new (returned (x .tree) (bySets σ w) p (take w bits) g)
-  pub ends : (x : ClosingHere b (within b w) row at) → next ≡ x .next
-  pub rows : (x : ClosingHere b (within b w) row at) → row′ ≡ row + w * loopsOf (x .tree)
-  pub on : at < next
-  pub inside : next ≤ length b
+pub record ClosingCodedPre (code : ℕ) (G : Going) (p : ℕ) (S : Standing) : Type 0 where
+  pub pre : ClosingPre G p S
+  pub there : S .at < length (G .book)
+  pub is : getD (G .book) (S .at) 0 ≡ code
+
+-- The sets at hand are of no use behind it.
+pub record ClosingPost (G : Going) (p g : ℕ) (S : Standing) (new′ : List ℕ) (next row′ : ℕ) : Type 0 where
+  pub added : (x : ClosingAt G S) → new′ ≡ grow (S .new) (returned (x .tree) (rules G) p (used G S) g)
+  pub ends : (x : ClosingAt G S) → next ≡ x .next
+  pub rows : (x : ClosingAt G S) → row′ ≡ S .row + G .width * loopsOf (x .tree)
+  pub long : length new′ ≡ length (S .new)
+  pub on : S .at < next
+  pub inside : next ≤ length (G .book)
+
+pub record ClosingAnswer (G : Going) (p g : ℕ) (S : Standing) (new′ : List ℕ) (r : ℕ) : Type 0 where
+  pub is : ClosingPost G p g S new′ (atIn r) (rowIn r)

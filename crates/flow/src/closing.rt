@@ -1,87 +1,94 @@
 // What a closing sequence adds to the summary: its loops' rows, and the result set of procedure p.
-use crate::add::add;
-use crate::command::command;
+use crate::assign::assign;
+use crate::command::nested;
+use crate::copy::PLACES;
 use crate::expr::expr;
-use crate::row::Row;
-use sets::Set;
-ghost use Rattle.flow.specs.Walks.{ClosingPre, ClosingCodedPre, ClosingPost};
-
-// Where the next part begins, and the place of the next row.
-pub struct Closed {
-    pub next: usize,
-    pub row: usize,
-}
+use crate::packed::at_in;
+use crate::packed::inner;
+use crate::packed::next_in;
+use crate::packed::placed;
+use crate::packed::row_in;
+use crate::packed::under;
+use crate::row::WIDTH;
+use sets::Bits;
+ghost use Rattle.flow.specs.Walks.{going, standing, ClosingPre, ClosingCodedPre, ClosingAnswer};
 
 // The ordinary commands one after another, up to the closing command.
 pub fn closing(
     book: &[u8],
-    old: &[u8],
-    new: &mut [u8],
+    old: &[Bits; PLACES],
+    new: &mut [Bits; PLACES],
     at: usize,
     row: usize,
     w: usize,
     p: usize,
-    sets: Row,
-    guard: Set,
-) -> Closed
-    requires { ⌜ ClosingPre (now book) (now old) (now new) row at w p (sets .bits) ⌝ }
-    ensures { λ r. ⌜ ClosingPost (now (book .entry)) (now (old .entry)) (now (new .entry)) row at w p (sets .bits) (guard .bits) (now (new .exit)) (r .next) (r .row) ⌝ }
+    sets: &mut [Bits; WIDTH],
+    guard: Bits,
+) -> u64
+    requires { ⌜ ClosingPre (going (now book) (now old) w) p (standing at row (now new) (now sets)) ⌝ }
+    ensures { λ r. ⌜ ClosingAnswer (going (now (book .entry)) (now (old .entry)) w) p
+        guard (standing at row (now (new .entry)) (now (sets .entry))) (now (new .exit)) r ⌝ }
 {
-    let mut sets = sets;
     let mut row = row;
     let mut at = at;
-    while book[at] < 0x04 {
-        let one = command(book, old, new, at, row, w, sets, guard);
-        sets = one.sets;
-        row = one.row;
-        at = one.next;
+    loop {
+        let code = book[at];
+        if code == 0x04 {
+            return give(book, old, new, at, row, w, p, sets, guard);
+        }
+        if code == 0x05 {
+            return pick(book, old, new, at, row, w, p, sets, guard);
+        }
+        if code == 0x01 {
+            at = assign(book, old, at, sets, guard);
+            continue;
+        }
+        let one = nested(book, old, new, at, row, w, sets, guard);
+        row = row_in(one);
+        at = at_in(one);
     }
-    if book[at] == 0x04 {
-        return give(book, old, new, at, row, w, p, sets, guard);
-    }
-    pick(book, old, new, at, row, w, p, sets, guard)
 }
 
 // The returned set and the guard must lie in the result set.
 fn give(
     book: &[u8],
-    old: &[u8],
-    new: &mut [u8],
+    old: &[Bits; PLACES],
+    new: &mut [Bits; PLACES],
     at: usize,
     row: usize,
     w: usize,
     p: usize,
-    sets: Row,
-    guard: Set,
-) -> Closed
-    requires { ⌜ ClosingCodedPre 0x04 (now book) (now old) (now new) row at w p (sets .bits) ⌝ }
-    ensures { λ r. ⌜ ClosingPost (now (book .entry)) (now (old .entry)) (now (new .entry)) row at w p (sets .bits) (guard .bits) (now (new .exit)) (r .next) (r .row) ⌝ }
+    sets: &[Bits; WIDTH],
+    guard: Bits,
+) -> u64
+    requires { ⌜ ClosingCodedPre 0x04 (going (now book) (now old) w) p (standing at row (now new) (now sets)) ⌝ }
+    ensures { λ r. ⌜ ClosingAnswer (going (now (book .entry)) (now (old .entry)) w) p
+        guard (standing at row (now (new .entry)) (now (sets .entry))) (now (new .exit)) r ⌝ }
 {
     let value = expr(book, old, at + 1, sets);
-    add(new, p, value.set.union(guard));
-    Closed {
-        next: value.next,
-        row,
-    }
+    new[p] = new[p] | under(value, guard);
+    placed(next_in(value), row)
 }
 
 // Both closing sequences start from the same sets, with the condition's set in the guard.
 fn pick(
     book: &[u8],
-    old: &[u8],
-    new: &mut [u8],
+    old: &[Bits; PLACES],
+    new: &mut [Bits; PLACES],
     at: usize,
     row: usize,
     w: usize,
     p: usize,
-    sets: Row,
-    guard: Set,
-) -> Closed
-    requires { ⌜ ClosingCodedPre 0x05 (now book) (now old) (now new) row at w p (sets .bits) ⌝ }
-    ensures { λ r. ⌜ ClosingPost (now (book .entry)) (now (old .entry)) (now (new .entry)) row at w p (sets .bits) (guard .bits) (now (new .exit)) (r .next) (r .row) ⌝ }
+    sets: &mut [Bits; WIDTH],
+    guard: Bits,
+) -> u64
+    requires { ⌜ ClosingCodedPre 0x05 (going (now book) (now old) w) p (standing at row (now new) (now sets)) ⌝ }
+    ensures { λ r. ⌜ ClosingAnswer (going (now (book .entry)) (now (old .entry)) w) p
+        guard (standing at row (now (new .entry)) (now (sets .entry))) (now (new .exit)) r ⌝ }
 {
     let test = expr(book, old, at + 1, sets);
-    let inner = guard.union(test.set);
-    let yes = closing(book, old, new, test.next, row, w, p, sets, inner);
-    closing(book, old, new, yes.next, yes.row, w, p, sets, inner)
+    let both = inner(guard, test);
+    let mut other = *sets;
+    let yes = closing(book, old, new, next_in(test), row, w, p, &mut other, both);
+    closing(book, old, new, at_in(yes), row_in(yes), w, p, sets, both)
 }

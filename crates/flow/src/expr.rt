@@ -1,100 +1,97 @@
 // The set of the expression at a place of a book.
-use crate::row::Row;
+use crate::copy::PLACES;
+use crate::packed::flowed;
+use crate::packed::next_in;
+use crate::packed::set_in;
+use crate::past::past;
+use crate::row::WIDTH;
 use book::bytes::number;
+use sets::Bits;
 use sets::Set;
 ghost use mathlib.Core.Path.{_≡_};
 ghost use Prim.Native.Nat.{_≤_};
 ghost use lib.ListN.{length, take};
 ghost use Rattle.meaning.specs.Limits.{most-parameters};
 ghost use Rattle.meaning.specs.Sets.{gather as gathered};
-ghost use Rattle.flow.specs.Walks.{ExprPre, CodedPre, ExprPost, ArgsPre, ArgsPost};
+ghost use Rattle.flow.specs.Exprs.{ExprPre, CodedPre, ExprAnswer};
 
-// The set, and where the next part begins.
-pub struct Flowed {
-    pub set: Set,
-    pub next: usize,
-}
-
-pub fn expr(book: &[u8], old: &[u8], at: usize, sets: Row) -> Flowed
+// The parts still open one after the other: an operation opens its operands.
+pub fn expr(book: &[u8], old: &[Bits; PLACES], at: usize, sets: &[Bits; WIDTH]) -> u64
     requires { ⌜ ExprPre (now book) (now old) at ⌝ }
-    ensures { λ r. ⌜ ExprPost (now (book .entry)) (now (old .entry)) (sets .bits) at (r .set .bits) (r .next) ⌝ }
+    ensures { λ r. ⌜ ExprAnswer (now (book .entry)) (now (old .entry)) (now (sets .entry)) at r ⌝ }
 {
-    let code = book[at];
-    if code == 0x10 {
-        return Flowed {
-            set: Set::EMPTY,
-            next: at + 5,
-        };
+    let mut at = at;
+    let mut open: usize = 1;
+    let mut set: Bits = 0;
+    while 0 < open {
+        let code = book[at];
+        if code == 0x12 {
+            at += 2;
+            open += 1;
+            continue;
+        }
+        open -= 1;
+        if code == 0x11 {
+            let x = number(book[at + 1]);
+            set = set | sets[x];
+            at += 2;
+            continue;
+        }
+        if code == 0x10 {
+            at += 5;
+            continue;
+        }
+        let one = call(book, old, at, sets);
+        set = set | set_in(one);
+        at = next_in(one);
     }
-    if code == 0x11 {
-        return Flowed {
-            set: sets.of(number(book[at + 1])),
-            next: at + 2,
-        };
-    }
-    if code == 0x12 {
-        return operation(book, old, at, sets);
-    }
-    call(book, old, at, sets)
+    flowed(set, at)
 }
 
-fn operation(book: &[u8], old: &[u8], at: usize, sets: Row) -> Flowed
-    requires { ⌜ CodedPre 0x12 (now book) (now old) at ⌝ }
-    ensures { λ r. ⌜ ExprPost (now (book .entry)) (now (old .entry)) (sets .bits) at (r .set .bits) (r .next) ⌝ }
-{
-    let left = expr(book, old, at + 2, sets);
-    let right = expr(book, old, left.next, sets);
-    Flowed {
-        set: left.set.union(right.set),
-        next: right.next,
-    }
-}
-
-// Only the argument sets whose position is in the callee's result set.
-fn call(book: &[u8], old: &[u8], at: usize, sets: Row) -> Flowed
+// Only the argument sets whose position is in the callee's result set; the other arguments are passed over.
+fn call(book: &[u8], old: &[Bits; PLACES], at: usize, sets: &[Bits; WIDTH]) -> u64
     requires { ⌜ CodedPre 0x13 (now book) (now old) at ⌝ }
-    ensures { λ r. ⌜ ExprPost (now (book .entry)) (now (old .entry)) (sets .bits) at (r .set .bits) (r .next) ⌝ }
+    ensures { λ r. ⌜ ExprAnswer (now (book .entry)) (now (old .entry)) (now (sets .entry)) at r ⌝ }
 {
     let p = number(book[at + 1]);
     let n = number(book[1 + 6 * p + 4]);
-    let given = arguments(book, old, at + 2, n, sets);
-    let result = Set { bits: old[p] };
-    Flowed {
-        set: given.gather(result, n),
-        next: given.next,
+    let result = old[p];
+    if result == 0 {
+        return flowed(0, past(book, at + 2, n));
     }
-}
-
-// Up to eight argument sets, and where the next part begins.
-struct Gathered {
-    sets: [u8; 8],
-    next: usize,
-}
-
-fn arguments(book: &[u8], old: &[u8], at: usize, n: usize, sets: Row) -> Gathered
-    requires { ⌜ ArgsPre (now book) (now old) n at ⌝ }
-    ensures { λ r. ⌜ ArgsPost (now (book .entry)) (now (old .entry)) (sets .bits) n at (r .sets) (r .next) ⌝ }
-{
-    let mut given = [0u8; 8];
-    let mut next = at;
+    let mut given = [0; ARGUMENTS];
+    let mut next = at + 2;
     for i in 0..n {
-        let one = expr(book, old, next, sets);
-        given[i] = one.set.bits;
-        next = one.next;
+        if (Set { bits: result }).has(i) {
+            let one = expr(book, old, next, sets);
+            given[i] = set_in(one);
+            next = next_in(one);
+        } else {
+            next = past(book, next, 1);
+        }
     }
-    Gathered { sets: given, next }
+    let all = Given { sets: given };
+    flowed(all.gather(result, n), next)
 }
 
-impl Gathered {
+// The most arguments of a call.
+const ARGUMENTS: usize = 8;
+
+// The argument sets of a call.
+struct Given {
+    sets: [Bits; ARGUMENTS],
+}
+
+impl Given {
     // The union of those of the first n sets whose position is chosen.
-    fn gather(self, chosen: Set, n: usize) -> Set
+    fn gather(self, chosen: Bits, n: usize) -> Bits
         requires { ⌜ (n ≤ most-parameters) × (length (self .sets) ≡ most-parameters) ⌝ }
-        ensures { λ r. ⌜ r .bits ≡ gathered (chosen .bits) (take n (self .sets)) ⌝ }
+        ensures { λ r. ⌜ r ≡ gathered chosen (take n (self .sets)) ⌝ }
     {
-        let mut union = Set::EMPTY;
+        let mut union: Bits = 0;
         for i in 0..n {
-            if chosen.has(i) {
-                union = union.union(Set { bits: self.sets[i] });
+            if (Set { bits: chosen }).has(i) {
+                union = union | self.sets[i];
             }
         }
         union

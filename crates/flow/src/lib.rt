@@ -1,18 +1,24 @@
 // The flow rules over a readable book's bytes: one walk, the checker and the finder over it.
-mod add;
+mod assign;
+mod called;
 mod closing;
 mod command;
 mod copy;
 mod expr;
+mod legal;
+mod mask;
+mod packed;
+mod past;
 mod round;
 mod row;
 mod settle;
+mod wake;
 
 use crate::settle::satisfied;
 use crate::settle::settle;
 use book::read;
 ghost use Rattle.meaning.specs.Contracts.{Checks, FindsIn};
-ghost use Rattle.flow.specs.Rounds.{Refused};
+ghost use Rattle.flow.specs.Settling.{Sized, Refused};
 
 // The checker: the refusal of a summary, 0 where it is accepted.
 pub fn check(book: &[u8], summary: &[u8]) -> u8
@@ -22,7 +28,15 @@ pub fn check(book: &[u8], summary: &[u8]) -> u8
     if answer.refusal != 0 {
         return answer.refusal;
     }
-    if summary.len() != answer.size {
+    check_readable(book, answer.size, summary)
+}
+
+// The same for a book that is known to be readable, whose summaries have this size.
+pub fn check_readable(book: &[u8], size: usize, summary: &[u8]) -> u8
+    requires { ⌜ Sized (now book) size ⌝ }
+    ensures { λ r. ⌜ Checks (now (book .entry)) (now (summary .entry)) r ⌝ }
+{
+    if summary.len() != size {
         return 8;
     }
     if satisfied(book, summary) { 0 } else { 9 }

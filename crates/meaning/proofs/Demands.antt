@@ -16,7 +16,7 @@ use Rattle.meaning.proofs.Sets.{sub-refl, sub-trans, empty-sub, union-l
 use Rattle.meaning.proofs.Pairs.{All, Pairs, done, also, all-mono, all-map, all-append, all-each, all-replicate, all-getD, all-pairs, pairs-all, pairs-refl, pairs-getD, pairs-length}
 use Rattle.meaning.proofs.Needs.{Below, Met, Placed, meets-still}
 use Rattle.meaning.proofs.Parts.{parts-demands, pairs-demands}
-use Rattle.meaning.proofs.Walks.{Alike, Asked, walk-ends}
+use Rattle.meaning.proofs.Walks.{Alike, Asked, calls-all-of, walk-ends}
 use Rattle.meaning.proofs.Places.{RowIn, OwnRow, Laid, result-place, result-limit}
 use Rattle.meaning.proofs.Rounds.{Lawful}
 
@@ -74,15 +74,15 @@ module _ {b : Book} (𝓛 : Laid b) where
   pub demands-monotone : (σ τ : List ℕ) → Below σ τ → Pairs (Asked _⊆_ (λ k. Unit {0})) (demands b σ) (demands b τ)
   demands-monotone σ τ h =
       pairs-demands b σ τ λ p q e.
-      walk-ends (alike q) (q .body) p tt (𝓛 .rows p q e) (pairs-refl sub-refl (startSets q)) (sub-refl empty)
+      walk-ends (alike q) (q .body) p tt (𝓛 .rows p q e) (calls-all-of (λ r. tt) (q .body)) (pairs-refl sub-refl (startSets q)) (sub-refl empty)
     where
-      alike : (q : Procedure) → Alike _⊆_ (OwnRow b q) (λ k. Unit {0}) (bySets σ (variables q)) (bySets τ (variables q))
+      alike : (q : Procedure) → Alike _⊆_ (OwnRow b q) (λ k. Unit {0}) (λ r. Unit {0}) (bySets σ (variables q)) (bySets τ (variables q))
       alike q =
           record {
             none = sub-refl empty;
             join = λ p r. union-mono p r;
-            called = λ p s. gather-mono (h .on p) s;
-            held = λ k u. h .on k;
+            called = λ p c s. gather-mono (h .on p) s;
+            held = λ k r i l. h .on (k + i);
             width = refl;
             row-places = λ k r i l. tt;
           }
@@ -91,16 +91,16 @@ module _ {b : Book} (𝓛 : Laid b) where
   demands-placed σ =
       parts-demands b σ λ p q e.
       pairs-all (λ d c a. record { exists = a .stands .exists })
-      (walk-ends (alike q) (q .body) p (result-allows p q e) (𝓛 .rows p q e) {h = empty} (pairs-refl (λ s. tt) (startSets q)) tt)
+      (walk-ends (alike q) (q .body) p (result-allows p q e) (𝓛 .rows p q e) (calls-all-of (λ r. tt) (q .body)) {h = empty} (pairs-refl (λ s. tt) (startSets q)) tt)
     where
       alike : (q : Procedure) →
-          Alike {B = ℕ} (λ s t. Unit {0}) (OwnRow b q) (Allows b (q .parameters)) (bySets σ (variables q)) (bySets σ (variables q))
+          Alike {B = ℕ} (λ s t. Unit {0}) (OwnRow b q) (Allows b (q .parameters)) (λ r. Unit {0}) (bySets σ (variables q)) (bySets σ (variables q))
       alike q =
           record {
             none = tt;
             join = λ p r. tt;
-            called = λ p s. tt;
-            held = λ k a. tt;
+            called = λ p c s. tt;
+            held = λ k r i l. tt;
             width = refl;
             row-places = row-allows b (variables q) (q .parameters);
           }
@@ -109,20 +109,20 @@ module _ {b : Book} (𝓛 : Laid b) where
   full-met =
       parts-demands b (full b) λ p q e.
       pairs-all (λ d c a. record { lies = rw (at-full b (d .place), a .stands .limit) (a .related) })
-      (walk-ends (alike q) (q .body) p (result-allows p q e) (𝓛 .rows p q e) {h = empty}
+      (walk-ends (alike q) (q .body) p (result-allows p q e) (𝓛 .rows p q e) (calls-all-of (λ r. tt) (q .body)) {h = empty}
       (all-pairs (start-own q)) (empty-sub (upto (q .parameters))))
     where
       alike : (q : Procedure) →
-          Alike {B = ℕ} (λ s t. s ⊆ upto (q .parameters)) (OwnRow b q) (Allows b (q .parameters))
+          Alike {B = ℕ} (λ s t. s ⊆ upto (q .parameters)) (OwnRow b q) (Allows b (q .parameters)) (λ r. Unit {0})
           (bySets (full b) (variables q)) (bySets (full b) (variables q))
       alike q =
           record {
             none = empty-sub (upto (q .parameters));
             join = λ p r. union-least p r;
-            called = λ p {s} {t} h.
+            called = λ p c {s} {t} h.
                 gather-least (at (full b) p) s (upto (q .parameters))
                 (λ i l m. pairs-getD h i {e = empty} (empty-sub (upto (q .parameters))));
-            held = λ k a. rw (at-full b k, a .limit) (sub-refl (upto (q .parameters)));
+            held = λ k r i l. rw (at-full b (k + i), r .limit i l) (sub-refl (upto (q .parameters)));
             width = refl;
             row-places = row-allows b (variables q) (q .parameters);
           }

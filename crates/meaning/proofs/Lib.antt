@@ -24,5 +24,10 @@ pub mod Reporter
 pub mod Weights
 pub mod Rounds
 pub mod Demands
+pub mod Frame
 pub mod Finder
+pub mod Written
+pub mod Skipping
+pub mod Elsewhere
+pub mod Fronts
 pub mod Lowest

@@ -58,11 +58,11 @@ pub at-beyond : (σ : List ℕ) (k : ℕ) → length σ ≤ k → at σ k ≡ em
 unfolding at
 at-beyond σ k h = List·getD-eq-default σ empty h
 
-at-add-other : (σ : List ℕ) (d : Need ℕ) (k : ℕ) → k ≢ d .place → at (add σ d) k ≡ at σ k
+pub at-add-other : (σ : List ℕ) (d : Need ℕ) (k : ℕ) → k ≢ d .place → at (add σ d) k ≡ at σ k
 unfolding at
 at-add-other σ d k h = getD-set-other σ (d .place) k (union (at σ (d .place)) (d .needed)) empty h
 
-at-add-same : (σ : List ℕ) (d : Need ℕ) → d .place < length σ → at (add σ d) (d .place) ≡ union (at σ (d .place)) (d .needed)
+pub at-add-same : (σ : List ℕ) (d : Need ℕ) → d .place < length σ → at (add σ d) (d .place) ≡ union (at σ (d .place)) (d .needed)
 unfolding at
 at-add-same σ d h = getD-set-same σ (d .place) (union (at σ (d .place)) (d .needed)) empty h
 
@@ -93,7 +93,7 @@ add-still : (σ : List ℕ) (d : Need ℕ) → Met σ d → add σ d ≡ σ
 unfolding at
 add-still σ d m = rw (union-sub-l (m .lies)) (set-getD σ (d .place) empty)
 
-met-above : {σ τ : List ℕ} {d : Need ℕ} → Below σ τ → Met σ d → Met τ d
+pub met-above : {σ τ : List ℕ} {d : Need ℕ} → Below σ τ → Met σ d → Met τ d
 met-above {d} b m = record { lies = sub-trans (m .lies) (b .on (d .place)) }
 
 -- A round: all needs are added.
@@ -118,6 +118,12 @@ grow-met σ e done = done
 grow-met σ e (also {a = d} {s = ds} p h) =
     also (met-above (grow-above (add σ d) ds) (add-met σ d (rw e (p .exists))))
     (grow-met (add σ d) (length-set σ (d .place) (union (at σ (d .place)) (d .needed)) ∙ e) h)
+
+-- Needs at other places leave a place as it was.
+pub grow-other : (σ : List ℕ) {ds : List (Need ℕ)} (k : ℕ) → All (λ d. k ≢ d .place) ds → at (grow σ ds) k ≡ at σ k
+unfolding grow
+grow-other σ k done = refl
+grow-other σ k (also {a = d} n h) = grow-other (add σ d) k h ∙ at-add-other σ d k n
 
 pub grow-least : {σ τ : List ℕ} {ds : List (Need ℕ)} → Below σ τ → All (Met τ) ds → Below (grow σ ds) τ
 unfolding grow

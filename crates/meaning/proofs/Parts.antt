@@ -16,18 +16,18 @@ abbrev pub part : ℕ → Procedure → List ℕ → List (Need ℕ)
 part p q σ = ends (q .body) (bySets σ (variables q)) p (startSets q) empty
 
 -- A claim on each procedure of a book, from number p on.
-Each : ℕ → Book → (ℕ → Procedure → Type 0) → Type 0
+unfoldable pub Each : ℕ → Book → (ℕ → Procedure → Type 0) → Type 0
 Each p qs C = (i : ℕ) (q : Procedure) → getElem? qs i ≡ some q → C (p + i) q
 
-each-tail : (p : ℕ) (q : Procedure) (qs : Book) (C : ℕ → Procedure → Type 0) → Each p (q ∷ qs) C → Each (suc p) qs C
+pub each-tail : (p : ℕ) (q : Procedure) (qs : Book) (C : ℕ → Procedure → Type 0) → Each p (q ∷ qs) C → Each (suc p) qs C
 unfolding Each
 each-tail p q qs C h i r e = let s : p + suc i ≡ suc p + i = omega arith in subst (λ n. C n r) s (h (suc i) r e)
 
-each-head : (p : ℕ) (q : Procedure) (qs : Book) (C : ℕ → Procedure → Type 0) → Each p (q ∷ qs) C → C p q
+pub each-head : (p : ℕ) (q : Procedure) (qs : Book) (C : ℕ → Procedure → Type 0) → Each p (q ∷ qs) C → C p q
 unfolding Each
 each-head p q qs C h = let s : p + 0 ≡ p = omega arith in subst (λ n. C n q) s (h 0 q refl)
 
-from-zero : (b : Book) (C : ℕ → Procedure → Type 0) → ((p : ℕ) (q : Procedure) → getElem? b p ≡ some q → C p q) → Each 0 b C
+pub from-zero : (b : Book) (C : ℕ → Procedure → Type 0) → ((p : ℕ) (q : Procedure) → getElem? b p ≡ some q → C p q) → Each 0 b C
 unfolding Each
 from-zero b C h i q e = rw zero-add (h i q e)
 

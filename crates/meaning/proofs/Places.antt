@@ -154,7 +154,7 @@ loopsAll-placed k [] = refl
 loopsAll-placed k (q ∷ qs) = rw (loops-placed-of (q .body) (variables q) k, loopsAll-placed (k + variables q * loopsOf (q .body)) qs)
 
 -- The result of procedure p stands at place p.
-at-exists : {A : Type 0} (s : List A) (i : ℕ) {a : A} → getElem? s i ≡ some a → i < length s
+pub at-exists : {A : Type 0} (s : List A) (i : ℕ) {a : A} → getElem? s i ≡ some a → i < length s
 at-exists [] i e = let z : _≡_ {A = ℕ} 0 1 = cc in absurd (omega arith)
 at-exists (b ∷ s) zero e = omega arith
 at-exists (b ∷ s) (suc i) e = suc-le-suc (at-exists s i e)
@@ -180,6 +180,57 @@ counted-placed k done = done
 counted-placed k (also {a = q} c h) =
     also (record { parameters = c .parameters; locals = c .locals }) (counted-placed (k + variables q * loopsOf (q .body)) h)
 
+-- Where the rows of procedure p begin, if those of the first procedure begin at place k.
+unfoldable pub rowOf : ℕ → Book → ℕ → ℕ
+rowOf k [] p = k
+rowOf k (q ∷ qs) zero = k
+rowOf k (q ∷ qs) (suc p) = rowOf (k + variables q * loopsOf (q .body)) qs p
+
+-- A row of w sets at place j, from place k on and before place l.
+pub record RowFrom (k l w j : ℕ) : Type 0 where
+  pub from : k ≤ j
+  pub to : j + w ≤ l
+
+row-start : (k : ℕ) (qs : Book) → rowOf k qs 0 ≡ k
+unfolding rowOf
+row-start k [] = refl
+row-start k (q ∷ qs) = refl
+
+-- Rows begin behind the first place, and those of a later procedure behind those of an earlier one: rows of different procedures do not meet.
+pub row-behind : (k : ℕ) (qs : Book) (p : ℕ) → k ≤ rowOf k qs p
+unfolding rowOf
+row-behind k [] p = omega arith
+row-behind k (q ∷ qs) zero = omega arith
+row-behind k (q ∷ qs) (suc p) = omega (arith, row-behind (k + variables q * loopsOf (q .body)) qs p)
+
+pub row-ordered : (k : ℕ) (qs : Book) (p r : ℕ) → p ≤ r → rowOf k qs p ≤ rowOf k qs r
+unfolding rowOf
+row-ordered k [] p r h = omega arith
+row-ordered k (q ∷ qs) zero r h = row-behind k (q ∷ qs) r
+row-ordered k (q ∷ qs) (suc p) zero h = absurd (omega arith)
+row-ordered k (q ∷ qs) (suc p) (suc r) h = row-ordered (k + variables q * loopsOf (q .body)) qs p r (omega arith)
+
+-- The rows of procedure p stand from where its rows begin, and before those of the next.
+rows-from : (k : ℕ) (qs : Book) (p : ℕ) (q : Procedure) → getElem? (placedAll k qs) p ≡ some q →
+    StandsOf (q .body) (RowFrom (rowOf k (placedAll k qs) p) (rowOf k (placedAll k qs) (suc p)) (variables q))
+unfolding placedAll rowOf Within
+rows-from k [] p q e = let z : _≡_ {A = ℕ} 0 1 = cc in absurd (omega arith)
+rows-from k (r ∷ qs) zero q e =
+    let r′ : Procedure =
+    record { parameters = r .parameters; locals = r .locals; body = placedOf (variables r) k (r .body) } in
+    let s : r′ ≡ q = cc in
+    let rest = placedAll (k + variables r * loopsOf (r .body)) qs in
+    let end = rowOf (k + variables r * loopsOf (r′ .body)) rest 0 in
+    let m : end ≡ k + variables r * loopsOf (r .body) =
+    row-start (k + variables r * loopsOf (r′ .body)) rest ∙ ap (λ n. k + variables r * n) (loops-placed-of (r .body) (variables r) k) in
+    subst (λ (x : Procedure). StandsOf (x .body) (RowFrom k end (variables x))) s
+    (placed-stands-of (variables r) (RowFrom k end (variables r)) (r .body) k (λ j l h. record { from = l; to = rw m h }))
+rows-from k (r ∷ qs) (suc p) q e =
+    let rest = placedAll (k + variables r * loopsOf (r .body)) qs in
+    subst (λ n. StandsOf (q .body) (RowFrom (rowOf (k + variables r * n) rest p) (rowOf (k + variables r * n) rest (suc p)) (variables q)))
+    (sym (loops-placed-of (r .body) (variables r) k))
+    (rows-from (k + variables r * loopsOf (r .body)) qs p q e)
+
 -- A place where a row of procedure q of the book may begin.
 abbrev pub OwnRow : Book → Procedure → ℕ → Type 0
 OwnRow b q = RowIn (limits b) (variables q) (q .parameters)
@@ -187,6 +238,8 @@ OwnRow b q = RowIn (limits b) (variables q) (q .parameters)
 -- What the layout of a readable book gives: each procedure's rows within its own places, and counts in their ranges.
 pub record Laid (b : Book) : Type 0 where
   pub rows : (p : ℕ) (q : Procedure) → getElem? b p ≡ some q → StandsOf (q .body) (OwnRow b q)
+  pub own : (p : ℕ) (q : Procedure) → getElem? b p ≡ some q →
+      StandsOf (q .body) (RowFrom (rowOf (length b) b p) (rowOf (length b) b (suc p)) (variables q))
   pub counted : All Counted b
   pub some-procedure : 1 ≤ length b
   pub few-procedures : length b ≤ most-procedures
@@ -204,6 +257,7 @@ pub laid-placed : (qs : Book) → All Counted qs → 1 ≤ length qs → length 
 laid-placed qs c s l f =
     record {
       rows = rows-behind qs;
+      own = λ p q e. rw (length-placed (length qs) qs) (rows-from (length qs) qs p q e);
       counted = counted-placed (length qs) c;
       some-procedure = rw length-placed s;
       few-procedures = rw length-placed l;

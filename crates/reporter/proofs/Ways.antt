@@ -17,9 +17,10 @@ use Rattle.meaning.specs.Answers.{LevelAnswer, checkBook, checkAnswer, noLevel,
 use Rattle.meaning.specs.Contracts.{Checks, Reports}
 use Rattle.meaning.proofs.Lists.{both}
 use Rattle.meaning.proofs.Places.{result-place}
-use Rattle.book.proofs.Readable.{BookHere, ProcedureView}
+use Rattle.book.proofs.Readable.{ProcedureView}
 use Rattle.book.proofs.Sound.{book-facts, procedure-view}
 use Rattle.book.proofs.Answer.{Rejected}
+use Rattle.flow.specs.Settling.{Sized}
 use Rattle.reporter.specs.Parts.{RefusedPost, AskedPre, FittedPre, allBelow}
 
 -- A number at or above the length names no element.
@@ -29,21 +30,21 @@ none-beyond (a ∷ l) zero h = absurd (omega arith)
 none-beyond (a ∷ l) (suc i) h = none-beyond l i (omega arith)
 
 -- The definition's answer under a valid table, test by test.
-module _ (b t ls σ : List ℕ) (p : ℕ) (g : AskedPre b t) where
-  of-book : levelAnswer b t p ls σ ≡ levelBook (g .here .book) t p ls σ
+module _ (b t ls σ : List ℕ) (p : ℕ) {n : ℕ} (g : AskedPre b n t) where
+  of-book : levelAnswer b t p ls σ ≡ levelBook (g .sized .book .book) t p ls σ
   unfolding levelAnswer
-  of-book = rw (g .here .is, levelAnswer)
+  of-book = rw (g .sized .book .is, levelAnswer)
 
   no-procedure : procedures b ≤ p → levelAnswer b t p ls σ ≡ noLevel 6
   unfolding levelBook
-  no-procedure h = of-book ∙ rw (g .valid-table, levelBook, none-beyond (g .here .book) p (omega (arith, book-facts (g .here) .counted)))
+  no-procedure h = of-book ∙ rw (g .valid-table, levelBook, none-beyond (g .sized .book .book) p (omega (arith, book-facts (g .sized .book) .counted)))
 
   module _ (k : p < procedures b) where
-    view : ProcedureView b (g .here) p
-    view = procedure-view (g .here) p k
+    view : ProcedureView b (g .sized .book) p
+    view = procedure-view (g .sized .book) p k
 
     fits : (f : Bool) → fitting t (view .procedure) ls ≡ f →
-        levelAnswer b t p ls σ ≡ (elim f [ false ↦ noLevel 7 | true ↦ levelOf (g .here .book) t p (view .procedure) ls σ ])
+        levelAnswer b t p ls σ ≡ (elim f [ false ↦ noLevel 7 | true ↦ levelOf (g .sized .book .book) t p (view .procedure) ls σ ])
     unfolding levelBook
     fits f e = of-book ∙ rw (g .valid-table, levelBook, view .found, e)
 
@@ -56,8 +57,8 @@ module _ (b t ls σ : List ℕ) (p : ℕ) (g : AskedPre b t) where
     miscounted u = fits false (rw (ne-eqb (length ls) (view .procedure .parameters) λ e. u (e ∙ view .parameters)))
 
 -- The same where the levels fit.
-module _ (b t ls σ : List ℕ) (p : ℕ) (g : FittedPre b t p ls) where
-  reported-of : levelAnswer b t p ls σ ≡ levelOf (g .asked .here .book) t p (view b t ls σ p (g .asked) (g .known) .procedure) ls σ
+module _ (b t ls σ : List ℕ) (p : ℕ) {n : ℕ} (g : FittedPre b n t p ls) where
+  reported-of : levelAnswer b t p ls σ ≡ levelOf (g .asked .sized .book .book) t p (view b t ls σ p (g .asked) (g .known) .procedure) ls σ
   unfolding fitting allBelow
   reported-of =
       let v = view b t ls σ p (g .asked) (g .known) in
@@ -67,7 +68,7 @@ module _ (b t ls σ : List ℕ) (p : ℕ) (g : FittedPre b t p ls) where
   accepted : checkAnswer b σ ≡ 0 → levelAnswer b t p ls σ ≡ record { refusal = 0; level = reported t ls (length ls) (at σ p) }
   unfolding checkAnswer levelOf
   accepted h =
-      let f : checkBook (g .asked .here .book) σ ≡ 0 = rw (g .asked .here .is, checkAnswer) at h in
+      let f : checkBook (g .asked .sized .book .book) σ ≡ 0 = rw (g .asked .sized .book .is, checkAnswer) at h in
       let v = view b t ls σ p (g .asked) (g .known) in
       let c : v .procedure .parameters ≡ length ls = v .parameters ∙ sym (g .counted) in
       reported-of ∙ rw (f, levelOf, c)
@@ -76,7 +77,7 @@ module _ (b t ls σ : List ℕ) (p : ℕ) (g : FittedPre b t p ls) where
   unfolding checkAnswer levelOf
   not-accepted zero h u = absurd (u refl)
   not-accepted (suc n) h u =
-      let f : checkBook (g .asked .here .book) σ ≡ suc n = rw (g .asked .here .is, checkAnswer) at h in
+      let f : checkBook (g .asked .sized .book .book) σ ≡ suc n = rw (g .asked .sized .book .is, checkAnswer) at h in
       reported-of ∙ rw (f, levelOf)
 
 -- What the contract asks at each end of the code.
@@ -92,21 +93,21 @@ module _ {b t ls σ : List ℕ} {p a l : ℕ} where
   unfolding levelAnswer
   book-refused {r} w q = told-refused r (rw (w .is, levelAnswer, w .number)) q
 
-  pub table-refused : {v : Bool} → BookHere b → v ≡ valid t → not v ≡ true → RefusedPost 5 a l → Reports b t p ls σ a l
+  pub table-refused : {v : Bool} {n : ℕ} → Sized b n → v ≡ valid t → not v ≡ true → RefusedPost 5 a l → Reports b t p ls σ a l
   unfolding levelAnswer levelBook
-  table-refused {v} g e f = told-refused 5 (rw (g .is, levelAnswer, levelBook, ← e, not-true v f))
+  table-refused {v} g e f = told-refused 5 (rw (g .book .is, levelAnswer, levelBook, ← e, not-true v f))
 
-  module _ {m : ℕ} (g : AskedPre b t) (e : m ≡ procedures b) where
+  module _ {m n : ℕ} (g : AskedPre b n t) (e : m ≡ procedures b) where
     pub procedure-refused : m ≤ p → RefusedPost 6 a l → Reports b t p ls σ a l
     procedure-refused h = told-refused 6 (no-procedure b t ls σ p g (rw e at h))
 
     pub level-refused : p < m → {v : Bool} → v ≡ allBelow t ls → not v ≡ true → RefusedPost 7 a l → Reports b t p ls σ a l
     level-refused h {v} f u = told-refused 7 (one-high b t ls σ p g (rw e at h) (sym f ∙ not-true v u))
 
-    pub levels-refused : p < m → {n : ℕ} → n ≡ (entry b p) .parameters → (length ls ≡ n → ⊥) → RefusedPost 7 a l → Reports b t p ls σ a l
-    levels-refused h c w = told-refused 7 (miscounted b t ls σ p g (rw e at h) λ q. w (q ∙ sym c))
+    pub levels-refused : p < m → {c : ℕ} → c ≡ (entry b p) .parameters → (length ls ≡ c → ⊥) → RefusedPost 7 a l → Reports b t p ls σ a l
+    levels-refused h f w = told-refused 7 (miscounted b t ls σ p g (rw e at h) λ q. w (q ∙ sym f))
 
-  module _ (g : FittedPre b t p ls) {r : ℕ} (d : Checks b σ r) where
+  module _ {n : ℕ} (g : FittedPre b n t p ls) {r : ℕ} (d : Checks b σ r) where
     pub summary-refused : (r ≡ 0 → ⊥) → RefusedPost r a l → Reports b t p ls σ a l
     summary-refused w = told-refused r (not-accepted b t ls σ p g r (sym (d .refusal-is)) w)
 
@@ -115,31 +116,31 @@ module _ {b t ls σ : List ℕ} {p a l : ℕ} where
     level-reported w i j = told _ (accepted b t ls σ p g (sym (d .refusal-is) ∙ w)) i j
 
 -- What is known once a test is passed.
-module _ {b t : List ℕ} where
-  pub both-taken : {v : Bool} → BookHere b → v ≡ valid t → not v ≡ false → AskedPre b t
-  both-taken {v} g e u = record { here = g; valid-table = sym e ∙ not-false v u }
+module _ {b t : List ℕ} {s : ℕ} where
+  pub both-taken : {v : Bool} → Sized b s → v ≡ valid t → not v ≡ false → AskedPre b s t
+  both-taken {v} g e u = record { sized = g; valid-table = sym e ∙ not-false v u }
 
-  pub first-there : AskedPre b t → 0 < length b
-  first-there g = book-facts (g .here) .some-bytes
+  pub first-there : AskedPre b s t → 0 < length b
+  first-there g = book-facts (g .sized .book) .some-bytes
 
-  pub entry-there : {p m : ℕ} → AskedPre b t → m ≡ procedures b → p < m → 1 + 6 * p + 4 < length b
-  entry-there g e h = omega (arith, book-facts (g .here) .contents)
+  pub entry-there : {p m : ℕ} → AskedPre b s t → m ≡ procedures b → p < m → 1 + 6 * p + 4 < length b
+  entry-there g e h = omega (arith, book-facts (g .sized .book) .contents)
 
-  pub all-fit : {ls : List ℕ} {p m n : ℕ} {v : Bool} → AskedPre b t → m ≡ procedures b → p < m → v ≡ allBelow t ls → not v ≡ false →
-      n ≡ (entry b p) .parameters → length ls ≡ n → FittedPre b t p ls
-  all-fit {v = v} g e h f u c q = record { asked = g; known = rw e at h; low = sym f ∙ not-false v u; counted = q ∙ c }
+  pub all-fit : {ls : List ℕ} {p m n : ℕ} {v : Bool} → n ≡ (entry b p) .parameters → length ls ≡ n → v ≡ allBelow t ls → not v ≡ false →
+      m ≡ procedures b → p < m → AskedPre b s t → FittedPre b s t p ls
+  all-fit {v = v} c q f u e h g = record { asked = g; known = rw e at h; low = sym f ∙ not-false v u; counted = q ∙ c }
 
-module _ {b t ls : List ℕ} {p : ℕ} (g : FittedPre b t p ls) where
+module _ {b t ls : List ℕ} {s p : ℕ} (g : FittedPre b s t p ls) where
   pub few-levels : length ls ≤ most-parameters
-  few-levels = rw (g .counted) (book-facts (g .asked .here) .few-parameters p (g .known))
+  few-levels = rw (g .counted) (book-facts (g .asked .sized .book) .few-parameters p (g .known))
 
   -- An accepted summary has a set for each procedure.
   pub result-there : {σ : List ℕ} {r : ℕ} → Checks b σ r → r ≡ 0 → p < length σ
   unfolding checkAnswer checkBook
-  result-there {σ} {r} d w = go (eqb (length σ) (size (g .asked .here .book))) refl
+  result-there {σ} {r} d w = go (eqb (length σ) (size (g .asked .sized .book .book))) refl
     where
-      go : (x : Bool) → eqb (length σ) (size (g .asked .here .book)) ≡ x → p < length σ
+      go : (x : Bool) → eqb (length σ) (size (g .asked .sized .book .book)) ≡ x → p < length σ
       go true q =
-          let z = eqb-true (length σ) (size (g .asked .here .book)) q in
-          omega (arith, result-place (g .asked .here .book) p (procedure-view (g .asked .here) p (g .known) .found))
-      go false q = let z : r ≡ 8 = d .refusal-is ∙ rw (g .asked .here .is, checkAnswer, q, checkBook) in absurd (omega arith)
+          let z = eqb-true (length σ) (size (g .asked .sized .book .book)) q in
+          omega (arith, result-place (g .asked .sized .book .book) p (procedure-view (g .asked .sized .book) p (g .known) .found))
+      go false q = let z : r ≡ 8 = d .refusal-is ∙ rw (g .asked .sized .book .is, checkAnswer, q, checkBook) in absurd (omega arith)

@@ -8,7 +8,7 @@ use lib.ListN.{length, getD}
 use Rattle.meaning.specs.Lists.{every}
 use Rattle.meaning.specs.Reading.{entry, procedures}
 use Rattle.meaning.specs.Levels.{levels, valid}
-use Rattle.book.proofs.Readable.{BookHere}
+use Rattle.flow.specs.Settling.{Sized}
 
 pub record RefusedPost (number refusal level : ℕ) : Type 0 where
   pub refusal-is : refusal ≡ number
@@ -18,14 +18,14 @@ pub record RefusedPost (number refusal level : ℕ) : Type 0 where
 unfoldable pub allBelow : List ℕ → List ℕ → Bool
 allBelow t ls = every (length ls) λ i. ltb (getD ls i 0) (levels t)
 
--- Nothing is refused of the book itself, nor of the table.
-pub record AskedPre (book table : List ℕ) : Type 0 where
-  pub here : BookHere book
+-- Nothing is refused of the book itself, nor of the table; the book's summaries have so many sets.
+pub record AskedPre (book : List ℕ) (size : ℕ) (table : List ℕ) : Type 0 where
+  pub sized : Sized book size
   pub valid-table : valid table ≡ true
 
 -- Nor of the procedure and the levels.
-pub record FittedPre (book table : List ℕ) (p : ℕ) (ls : List ℕ) : Type 0 where
-  pub asked : AskedPre book table
+pub record FittedPre (book : List ℕ) (size : ℕ) (table : List ℕ) (p : ℕ) (ls : List ℕ) : Type 0 where
+  pub asked : AskedPre book size table
   pub known : p < procedures book
   pub low : allBelow table ls ≡ true
   pub counted : length ls ≡ (entry book p) .parameters

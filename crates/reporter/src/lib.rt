@@ -1,13 +1,14 @@
 // The level reporter: the refusals in the order of their numbers, or the level of a procedure's answer.
 use book::bytes::number;
 use book::read;
-use flow::check;
+use flow::check_readable;
 use levels::count;
 use levels::reported;
 use levels::valid;
 use sets::Set;
 ghost use mathlib.Core.Path.{_≡_};
 ghost use Rattle.meaning.specs.Contracts.{Reports};
+ghost use Rattle.flow.specs.Settling.{Sized};
 ghost use Rattle.reporter.specs.Parts.{RefusedPost, AskedPre, FittedPre, allBelow};
 
 // The refusal, 0 where there is none, and the level.
@@ -40,11 +41,18 @@ fn below(table: &[u8], levels: &[u8]) -> bool
 }
 
 // What is asked with levels that fit.
-fn by_summary(book: &[u8], table: &[u8], p: usize, levels: &[u8], summary: &[u8]) -> LevelAnswer
-    requires { ⌜ FittedPre (now book) (now table) p (now levels) ⌝ }
+fn by_summary(
+    book: &[u8],
+    size: usize,
+    table: &[u8],
+    p: usize,
+    levels: &[u8],
+    summary: &[u8],
+) -> LevelAnswer
+    requires { ⌜ FittedPre (now book) size (now table) p (now levels) ⌝ }
     ensures { λ r. ⌜ Reports (now (book .entry)) (now (table .entry)) p (now (levels .entry)) (now (summary .entry)) (r .refusal) (r .level) ⌝ }
 {
-    let checked = check(book, summary);
+    let checked = check_readable(book, size, summary);
     if checked != 0 {
         return refused(checked);
     }
@@ -57,8 +65,15 @@ fn by_summary(book: &[u8], table: &[u8], p: usize, levels: &[u8], summary: &[u8]
 }
 
 // What is asked of a readable book under a valid table.
-fn asked(book: &[u8], table: &[u8], procedure: u64, levels: &[u8], summary: &[u8]) -> LevelAnswer
-    requires { ⌜ AskedPre (now book) (now table) ⌝ }
+fn asked(
+    book: &[u8],
+    size: usize,
+    table: &[u8],
+    procedure: u64,
+    levels: &[u8],
+    summary: &[u8],
+) -> LevelAnswer
+    requires { ⌜ AskedPre (now book) size (now table) ⌝ }
     ensures { λ r. ⌜ Reports (now (book .entry)) (now (table .entry)) procedure (now (levels .entry)) (now (summary .entry)) (r .refusal) (r .level) ⌝ }
 {
     let procedures = number(book[0]) as u64;
@@ -71,7 +86,7 @@ fn asked(book: &[u8], table: &[u8], procedure: u64, levels: &[u8], summary: &[u8
     }
     let p = procedure as usize;
     if levels.len() == number(book[1 + 6 * p + 4]) {
-        by_summary(book, table, p, levels, summary)
+        by_summary(book, size, table, p, levels, summary)
     } else {
         refused(7)
     }
@@ -91,8 +106,23 @@ pub fn level(
     if answer.refusal != 0 {
         return refused(answer.refusal);
     }
+    level_readable(book, answer.size, table, procedure, levels, summary)
+}
+
+// The same for a book that is known to be readable, whose summaries have this size.
+pub fn level_readable(
+    book: &[u8],
+    size: usize,
+    table: &[u8],
+    procedure: u64,
+    levels: &[u8],
+    summary: &[u8],
+) -> LevelAnswer
+    requires { ⌜ Sized (now book) size ⌝ }
+    ensures { λ r. ⌜ Reports (now (book .entry)) (now (table .entry)) procedure (now (levels .entry)) (now (summary .entry)) (r .refusal) (r .level) ⌝ }
+{
     if !valid(table) {
         return refused(5);
     }
-    asked(book, table, procedure, levels, summary)
+    asked(book, size, table, procedure, levels, summary)
 }

@@ -14,7 +14,7 @@ use Rattle.meaning.specs.Running.{Out, done, ended, yield, bind, tick, value, v
 use Rattle.book.proofs.Text.{ArgsAt, ArgsHere, ClosingHere}
 use Rattle.book.proofs.Views.{ArgsView, args-view, no-args-view, call-view, closing-code}
 use Rattle.book.proofs.Views.Bounds.{expr-spans}
-use Rattle.book.proofs.Readable.{rowOf}
+use Rattle.meaning.proofs.Places.{rowOf}
 use Rattle.runner.specs.Outcome.{endingOf, outcome, leaves, outcomeOf}
 use Rattle.runner.specs.Opened.{Opened, bookOf, inScope}
 use Rattle.runner.specs.Answer.{answerOf, Yields, Ends, HasLeft, HasResult}

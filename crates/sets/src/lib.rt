@@ -4,8 +4,11 @@ ghost use Prim.Native.Nat.{_≤_, _<_};
 ghost use Rattle.meaning.specs.Limits.{most-parameters};
 ghost use Rattle.meaning.specs.Sets.{single, union, member, inside, upto};
 
+// A set as a number.
+pub type Bits = u8;
+
 pub struct Set {
-    pub bits: u8,
+    pub bits: Bits,
 }
 
 impl Set {

@@ -89,6 +89,7 @@ fn time_entries(sheet: &mut Sheet) {
         ("Plain: assignments alone", subjects::assignments()),
         ("Many rounds: 64 loops in a row", subjects::many_rounds()),
         ("Most rounds: a ring of 32 procedures, 64 loops", subjects::most_rounds()),
+        ("Slowest search: a ring of one procedure, 64 loops", subjects::slowest_search()),
     ] {
         let asked = Asked::new(book);
         // Short runs: with long ones every book would show the same, the cost of a step.

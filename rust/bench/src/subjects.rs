@@ -2,7 +2,7 @@
 
 use cases::assemble::*;
 use cases::books::{
-    ring, shifting, Plan, Shape, MOST_BYTES, MOST_DEPTH, MOST_LOOPS, MOST_PROCEDURES,
+    lone_ring, ring, shifting, Plan, Shape, MOST_BYTES, MOST_DEPTH, MOST_LOOPS, MOST_PROCEDURES,
 };
 use cases::edges::body_of;
 use cases::random::Random;
@@ -59,6 +59,11 @@ pub fn many_rounds() -> Vec<u8> {
 /// As many rounds as a book can take.
 pub fn most_rounds() -> Vec<u8> {
     ring(MOST_PROCEDURES)
+}
+
+/// As many rounds as one procedure can take, each a walk of all its bytes.
+pub fn slowest_search() -> Vec<u8> {
+    lone_ring(MOST_BYTES)
 }
 
 /// while v0: v0 := v0 - 1. Six steps a turn.

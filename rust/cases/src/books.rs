@@ -562,6 +562,25 @@ pub fn ring(procedures: usize) -> Vec<u8> {
     book(&(0..procedures).map(|procedure| (8, 8, body(procedure))).collect::<Vec<_>>())
 }
 
+/// A book on which a search that walks a body as a whole does most: one procedure, which calls itself
+/// as the last procedure of a ring calls the first, so that each round changes one set of the one body.
+/// About so many bytes; what they are more than its 64 loops need are calls that no set rests on.
+pub fn lone_ring(bytes: usize) -> Vec<u8> {
+    use assemble::*;
+    let around: Vec<_> = (1..8).map(variable).chain([constant(0)]).collect();
+    let begin = set(0, operation(SUM, variable(0), call(0, &around)));
+    let idle = set(1, call(0, &(0..8).map(variable).collect::<Vec<_>>()));
+    let loops = shifting_body(MOST_LOOPS, 15);
+    let needed = single(8, 8, all(&[begin.clone(), loops.clone()])).len();
+    let calls = idle.repeat((bytes - needed) / idle.len());
+    single(8, 8, all(&[begin, calls, loops]))
+}
+
+/// The rounds that a lone ring takes, as `ring_rounds` says.
+pub fn lone_ring_rounds() -> u64 {
+    (8 * (1 + MOST_LOOPS * 16) + 1) as u64
+}
+
 /// The rounds that a ring takes: one for each parameter of each result and row, and one that adds
 /// nothing.
 pub fn ring_rounds(procedures: usize) -> u64 {

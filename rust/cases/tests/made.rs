@@ -1,6 +1,9 @@
 //! What the makers of random material say of it is so.
 
-use cases::books::{deep, ring, ring_rounds, with_loops, Plan, MOST_BYTES, MOST_DEPTH, MOST_LOOPS};
+use cases::books::{
+    deep, lone_ring, lone_ring_rounds, ring, ring_rounds, with_loops, Plan, MOST_BYTES, MOST_DEPTH,
+    MOST_LOOPS,
+};
 use cases::damage::damage;
 use cases::deepest::{all_deepest, books_of_depth, kinds};
 use cases::random::Random;
@@ -76,6 +79,15 @@ fn rings_take_their_rounds() {
     // Rounds never exceed 8 times the size plus 1, and no size is over 1,056.
     assert_eq!(ring_rounds(32), 8 * 1_056 + 1);
     assert_eq!(PlainEntries.read(&ring(32)), Answer::given(&[1_056]));
+}
+
+#[test]
+fn a_lone_ring_takes_its_rounds() {
+    let book = lone_ring(12_000);
+    assert!((11_900..=12_000).contains(&book.len()), "{} bytes", book.len());
+    let mut buffer = vec![0; 1 + 64 * 16];
+    let found = Answer::given(&[buffer.len() as u64, lone_ring_rounds()]);
+    assert_eq!(PlainEntries.find(&book, &mut buffer), found);
 }
 
 #[test]

@@ -1,6 +1,6 @@
 //! The book of a case: grown, at a limit, damaged, or no book at all.
 
-use cases::books::{deep, shifting, with_loops, Plan, MOST_BYTES, MOST_DEPTH, MOST_LOOPS};
+use cases::books::{deep, ring, shifting, with_loops, Plan, MOST_BYTES, MOST_DEPTH, MOST_LOOPS};
 use cases::damage::damage;
 use cases::random::Random;
 
@@ -83,6 +83,11 @@ fn of_loops(random: &mut Random) -> Subject {
 }
 
 fn of_rounds(random: &mut Random) -> Subject {
+    if random.chance(1, 4) {
+        // Each round changes what one procedure reads: its own rows, or a result of another.
+        let procedures = random.between(1, 4);
+        return Subject { book: ring(procedures), known: Known::Size(33 * procedures) };
+    }
     let loops = if random.chance(1, 20) { MOST_LOOPS } else { random.between(1, 6) };
     let (parameters, locals) = (random.between(1, 8), random.between(0, 8));
     let known = Known::Size(1 + loops * (parameters + locals));

@@ -11,9 +11,8 @@ use Rattle.meaning.specs.Limits.{most-depth}
 use Rattle.meaning.specs.Tree.{Procedure, Book, Closing, variables, loopsOf, placedOf}
 use Rattle.meaning.specs.Reading.{Parsed, got, bad, Scope, Entry, body, left-over, scope, bodyOf, bodies, placedAll}
 use Rattle.meaning.proofs.Pairs.{Pairs, done, also}
-use Rattle.meaning.proofs.Places.{loops-placed-of}
+use Rattle.meaning.proofs.Places.{rowOf, loops-placed-of}
 use Rattle.book.proofs.Text.{ClosingAt}
-use Rattle.book.proofs.Readable.{rowOf}
 use Rattle.book.proofs.Sound.Parts.{Lies, To, gives, fails, gives-all, to-more, to-then}
 use Rattle.book.proofs.Sound.Trees.{ReadClosing, closing-sound}
 

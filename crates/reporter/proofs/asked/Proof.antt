@@ -42,14 +42,15 @@ number-requires-2 c κs = search needs
 
 by-summary-requires : tie.Need-by-summary-requires
 by-summary-requires c κs =
+    let counted = c .before .before .before .before in
     all-fit
-    (c .before .before .before .before .before .before .before .before .before .before .before .before .pre)
-    (c .before .before .before .before .before .before .number .ensures .0)
-    (c .before .before .before .before .if1 .left)
-    (c .before .before .before .before .before .below .ensures)
-    (c .before .before .before .if2 .left)
     (c .before .number2 .ensures .0)
     (c .if3 .taken)
+    (counted .before .below .ensures)
+    (c .before .before .before .if2 .left)
+    (counted .before .before .number .ensures .0)
+    (counted .if1 .left)
+    (counted .before .before .before .before .before .before .before .before .pre)
 
 refused-requires-3 : tie.Need-refused-requires-3
 refused-requires-3 c κs = search needs

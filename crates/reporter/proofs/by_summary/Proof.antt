@@ -4,8 +4,8 @@ use Rattle.reporter.proofs.Ways.{summary-refused, level-reported, few-l
 use Rattle.reporter.proofs.by_summary.Statement.{statement}
 use Rattle.reporter.proofs.by_summary.Tie as tie
 
-check-requires : tie.Need-check-requires
-check-requires c κs = search needs
+check-readable-requires : tie.Need-check-readable-requires
+check-readable-requires c κs = search needs
 
 refused-requires : tie.Need-refused-requires
 refused-requires c κs = search needs
@@ -26,7 +26,7 @@ pub by-summary-spec : {M : Type 1} → statement M
 by-summary-spec =
     tie.close
     (tie.spec
-    check-requires
+    check-readable-requires
     refused-requires
     returns
     shared-slice-read-set

@@ -1,52 +1,21 @@
--- The places before i agree.
+use mathlib.Core.Logic.{⊎-elim}
 use Prim.Native.Nat.{_-_}
-use native.Mathlib.Omega.{arith}
-use lib.ListN.{length}
-use Rattle.flow.proofs.Copies.{Alike, alike-none, alike-more, alike-all, unlike}
+use borrow.Author.Needs.{needs}
+use Rattle.flow.proofs.Copies.{Comparing, comparing-none, comparing-same, comparing-other, comparing-done}
 use Rattle.flow.proofs.copy.same.Statement.{statement}
 use Rattle.flow.proofs.copy.same.Tie as tie
 
 abbrev Inv-loop : tie.InvT-loop
-Inv-loop a b i₀ i-end i = Alike a b i
+Inv-loop a b n equal₀ i₀ equal i = Comparing a b n i equal
 
 abbrev μ-loop : tie.MeasureT-loop
-μ-loop a b i₀ i-end i = length a - i
-
-loop-holds : tie.Need-loop-holds Inv-loop μ-loop
-loop-holds c = alike-none _ _
-
-shared-slice-read-if1 : tie.Need-shared-slice-read-if1 Inv-loop μ-loop
-shared-slice-read-if1 c = omega arith
-
-shared-slice-read-if1-2 : tie.Need-shared-slice-read-if1-2 Inv-loop μ-loop
-shared-slice-read-if1-2 c = omega arith
-
-returns : tie.Need-returns Inv-loop μ-loop
-returns c = unlike (c .before .before .before .before .loop .i) (c .if1 .taken)
-
-add-i : tie.Need-add-i Inv-loop μ-loop
-add-i c = omega arith
-
-loop-less : tie.Need-loop-less Inv-loop μ-loop
-loop-less c = omega arith
+μ-loop a b n equal₀ i₀ equal i = n - i
 
 loop-again : tie.Need-loop-again Inv-loop μ-loop
-loop-again c = alike-more (c .before .before .before .before .loop .inv) (omega arith) (c .if1 .left)
-
-returns-2 : tie.Need-returns-2 Inv-loop μ-loop
-returns-2 c = alike-all (c .before .loop .inv) (c .before .before .pre) (omega arith)
+loop-again c = ⊎-elim (λ w. search comparing-other) (λ w. search comparing-same) (c .if1 .came)
 
 pub same-spec : {M : Type 1} → statement M
 same-spec =
     tie.close
-    (tie.spec
-    Inv-loop
-    μ-loop
-    loop-holds
-    shared-slice-read-if1
-    shared-slice-read-if1-2
-    returns
-    add-i
-    loop-less
-    loop-again
-    returns-2)
+    (tie.spec Inv-loop μ-loop (λ c. search comparing-none) (λ c. search needs) (λ c. search needs) (λ c. search needs) (λ c. search needs) loop-again
+    (λ c. search comparing-done))
