@@ -44,26 +44,26 @@ assign-pre p =
     let q = p .coded .pre in
     record { contents = q .ready .contents; w = p .w; narrow = q .ready .narrow; here = assign-view (q .here) (p .coded .is) .given }
 
-pub assign-returns : {b σ sets : List ℕ} {i g y z u m : ℕ} → AssignPre b σ i sets → y ≡ getD b (i + 1) 0 → ExprAnswer b σ sets (i + 2) z →
-    u ≡ union (setIn z) g → m ≡ nextIn z → AssignPost b σ i sets g (set sets y u) m
-assign-returns p k e f h = assign-post p λ new r w q. rw h (assign-law q k (e .is) f)
+pub assign-returns : {b σ sets sets′ : List ℕ} {i g y z u m : ℕ} → AssignPre b σ i sets → y ≡ getD b (i + 1) 0 →
+    ExprAnswer b σ sets (i + 2) z → u ≡ union (setIn z) g → sets′ ≡ set sets y u → m ≡ nextIn z → AssignPost b σ i sets g sets′ m
+assign-returns p k e f n h = assign-post p λ new r w q. rw (n, h) (assign-law q k (e .is) f)
 
 -- A variable's set is taken as it stands.
-pub assign-copied : {b σ sets : List ℕ} (g : ℕ) {i y z : ℕ} → AssignPre b σ i sets → y ≡ getD b (i + 1) 0 → getD b (i + 2) 0 ≡ 0x11 →
-    z ≡ getD b (i + 3) 0 → AssignPost b σ i sets g (set sets y (bitOr (getD sets z 0) g)) (i + 4)
+pub assign-copied : {b σ sets sets′ : List ℕ} {g i y z : ℕ} → AssignPre b σ i sets → y ≡ getD b (i + 1) 0 → getD b (i + 2) 0 ≡ 0x11 →
+    z ≡ getD b (i + 3) 0 → sets′ ≡ set sets y (bitOr (getD sets z 0) g) → AssignPost b σ i sets g sets′ (i + 4)
 unfolding union
-assign-copied {b} {σ} {sets} g {i} {y} {z} p k c e =
+assign-copied {b} {σ} {sets} {sets′} {g} {i} {y} {z} p k c e m =
     let f : z ≡ getD b (i + 2 + 1) 0 = e ∙ ap (λ (n : ℕ). getD b n 0) (omega arith) in
     let n : i + 4 ≡ i + 2 + 2 = omega arith in
-    assign-post p λ new r w q. rw n (assign-law q k (variable-law (assign-pre p) c f refl) refl)
+    assign-post p λ new r w q. rw (m, n) (assign-law q k (variable-law (assign-pre p) c f refl) refl)
 
 -- A constant has no set.
-pub assign-constant : {b σ sets : List ℕ} (g : ℕ) {i y : ℕ} → AssignPre b σ i sets → y ≡ getD b (i + 1) 0 → getD b (i + 2) 0 ≡ 0x10 →
-    AssignPost b σ i sets g (set sets y g) (i + 7)
+pub assign-constant : {b σ sets sets′ : List ℕ} {g i y : ℕ} → AssignPre b σ i sets → y ≡ getD b (i + 1) 0 → getD b (i + 2) 0 ≡ 0x10 →
+    sets′ ≡ set sets y g → AssignPost b σ i sets g sets′ (i + 7)
 unfolding empty
-assign-constant {b} {σ} {sets} g {i} p k c =
+assign-constant {b} {σ} {sets} {sets′} {g} {i} p k c m =
     let n : i + 7 ≡ i + 2 + 5 = omega arith in
-    assign-post p λ new r w q. rw n (assign-law q k (constant-law sets (assign-pre p) c) (sym (union-empty-l g)))
+    assign-post p λ new r w q. rw (m, n) (assign-law q k (constant-law sets (assign-pre p) c) (sym (union-empty-l g)))
 
 -- What is read stands in the book, and the variables are the procedure's.
 pub assign-code : {b σ sets : List ℕ} {i : ℕ} → AssignPre b σ i sets → i + 2 < length b

@@ -112,3 +112,10 @@ pub branch-returns : {b σ new sets new₁ sets₁ new₂ sets₂ sets₃ : List
     RunAnswer (going b σ w) u (standing i₁ r₁ new₁ sets) new₂ sets₂ z → sets₃ ≡ joined union sets₁ sets₂ →
     CmdAnswer (going b σ w) g (standing i r new sets) new₂ sets₃ z
 branch-returns p e f h y k l z q = record { is = branch-law p (e .is) f (rw h at (y .is)) (rw (k, l) at (z .is)) q }
+
+-- The rows that are united are as wide as any: what a run has left, or what the if has found.
+pub ran-wide : {G : Going} {S : Standing} {new sets : List ℕ} {g r : ℕ} → RunAnswer G g S new sets r → Wide sets
+ran-wide y = y .is .wide
+
+pub found-wide : {b σ new sets : List ℕ} {i r w : ℕ} → CmdCodedPre 0x02 (going b σ w) (standing i r new sets) → Wide sets
+found-wide p = p .pre .ready .wide

@@ -4,6 +4,7 @@ use crate::expr::expr;
 use crate::packed::next_in;
 use crate::packed::under;
 use crate::row::WIDTH;
+use crate::row::replace;
 use book::bytes::number;
 use sets::Bits;
 ghost use Rattle.flow.specs.Walks.{AssignPre, AssignPost};
@@ -23,14 +24,15 @@ pub fn assign(
     let code = book[at + 2];
     if code == 0x11 {
         let y = number(book[at + 3]);
-        sets[x] = sets[y] | guard;
+        let set = sets[y] | guard;
+        replace(sets, x, set);
         return at + 4;
     }
     if code == 0x10 {
-        sets[x] = guard;
+        replace(sets, x, guard);
         return at + 7;
     }
     let value = expr(book, old, at + 2, sets);
-    sets[x] = under(value, guard);
+    replace(sets, x, under(value, guard));
     next_in(value)
 }

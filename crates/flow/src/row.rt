@@ -3,9 +3,9 @@ use crate::copy::PLACES;
 use sets::Bits;
 use sets::Set;
 ghost use mathlib.Core.Path.{_≡_};
-ghost use Prim.Native.Nat.{_-_, _≤_};
+ghost use Prim.Native.Nat.{_-_, _≤_, _<_};
 ghost use mathlib.Core.List.{_++_};
-ghost use lib.ListN.{length, replicate};
+ghost use lib.ListN.{length, set, replicate};
 ghost use Rattle.meaning.specs.Limits.{most-parameters};
 ghost use Rattle.meaning.specs.Lists.{each};
 ghost use Rattle.meaning.specs.Sets.{single, union};
@@ -16,6 +16,14 @@ ghost use Rattle.flow.specs.Walks.{Raised, RowFits, ArrivePre, Arrived};
 
 // The most parameters and the most locals together.
 pub const WIDTH: usize = 16;
+
+// The set of variable x is replaced.
+pub fn replace(sets: &mut [Bits; WIDTH], x: usize, s: Bits)
+    requires { ⌜ x < most-variables ⌝ }
+    ensures { λ r. ⌜ now (sets .exit) ≡ set (now (sets .entry)) x s ⌝ }
+{
+    sets[x] = s;
+}
 
 // Every variable's set must lie in the row at place k.
 pub fn raise(summary: &mut [Bits; PLACES], k: usize, w: usize, sets: &[Bits; WIDTH])

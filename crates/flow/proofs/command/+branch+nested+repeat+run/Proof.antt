@@ -19,7 +19,7 @@ use Rattle.flow.proofs.command.+branch+nested+repeat+run.{statement}
 use Rattle.flow.proofs.command.+branch+nested+repeat+run.Tie.{close}
 use native.Mathlib.Omega.{arith}
 use borrow.Author.Needs.{needs}
-use Rattle.flow.proofs.Branches.{branch-test, branch-yes, branch-no, branch-returns}
+use Rattle.flow.proofs.Branches.{branch-test, branch-yes, branch-no, branch-returns, ran-wide, found-wide}
 use Rattle.flow.proofs.packed.at_in.Reads as at-in-reads
 use Rattle.flow.proofs.expr.expr.Reads as expr-reads
 use Rattle.flow.proofs.packed.inner.Reads as inner-reads
@@ -91,10 +91,13 @@ branch-claims t = (
 branch-run-requires-2 : (t : ℕ) → branch-lts.Need-run-requires-2 (branch-claims t) (branch-at t) branch.Post
 branch-run-requires-2 t c κs =
     let ran = c .before .before .before .before in
-    let tested = ran .before .before .before .before .before .before in (
+    let tested = ran .before .before .before .before .before .before in
+    let next = ran .before .before .next-in .ensures in
+    let place = c .before .before .at-in .ensures in
+    let row = c .before .row-in .ensures in (
       omega arith,
-      branch-no (search needs) (ran .run .ensures) (c .before .before .at-in .ensures) (c .before .row-in .ensures) (ran .before .before .next-in .ensures)
-          (tested .expr .ensures) (tested .before .before .before .pre .1),
+      branch-no (search (ran-wide, found-wide)) (ran .run .ensures) place row next (tested .expr .ensures)
+          (tested .before .before .before .pre .1),
     )
 
 abbrev nested-claims : ℕ → nested-lts.Claims
@@ -145,8 +148,8 @@ pub +branch+nested+repeat+run-spec : {M : Type 1} → statement M
 +branch+nested+repeat+run-spec =
     close μ-branch μ-nested μ-repeat μ-run
     (λ t. branch-lts.spec (branch-claims t) (branch-at t) branch.Post (λ c. omega arith) (λ c κs. search branch-test) (λ c κs. tt) (λ c κs. tt)
-    (λ c κs. (omega arith, search branch-yes)) (λ c κs. tt) (λ c κs. tt) (branch-run-requires-2 t) (λ c κs. (search needs, search needs))
-    (λ c. search branch-returns))
+    (λ c κs. (omega arith, search branch-yes)) (λ c κs. tt) (λ c κs. tt) (branch-run-requires-2 t)
+    (λ c κs. (search (ran-wide, found-wide), search (ran-wide, found-wide))) (λ c. search branch-returns))
     (λ t. nested-lts.spec (nested-claims t) (nested-at t) nested.Post (λ c. search needs) (λ c κs. (omega arith, search nested-branch))
     (λ c. search needs) (λ c κs. (omega arith, search nested-loop)) (λ c. search needs))
     (λ t. repeat-lts.spec (repeat-claims t) (repeat-at t) repeat.Post (λ c κs. search repeat-arrives) (λ c. omega arith) (λ c κs. search repeat-test)
