@@ -1,4 +1,6 @@
 // Tells an auditor which inputs a procedure's answer may rest on, and at which level the answer stands.
+#![tactic(auto)]
+
 mod arguments;
 mod decimal;
 mod inputs;

@@ -1,4 +1,6 @@
 // The reader of recipe books.
+#![tactic(auto)]
+
 mod bodies;
 pub mod bytes;
 mod closing;

@@ -1,4 +1,6 @@
 // The flow rules over a readable book's bytes: one walk, the checker and the finder over it.
+#![tactic(auto)]
+
 mod assign;
 mod called;
 mod closing;

@@ -1,4 +1,6 @@
 // Runs the finder and the checker on each book of standard input: a line has a name and the book's bytes in hexadecimal.
+#![tactic(auto)]
+
 mod text;
 
 ghost use Rattle.std.specs.Prelude.{◌<◌, length};

@@ -1,6 +1,8 @@
 // The test of many level tables, and the levels reported for the worked books under several. A line of standard input has a
 // name and a colon, then a book, a level table, a procedure (FF: the greatest number), its levels and a summary, each a space
 // and bytes in hexadecimal. A line of the answer has the name, whether the table is valid, its bottom, the refusal and the level.
+#![tactic(auto)]
+
 mod case;
 mod text;
 

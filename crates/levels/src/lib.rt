@@ -1,4 +1,5 @@
 // Level tables: the test of a table, the join, the bottom level and the reported level. Each function takes any bytes.
+#![tactic(auto)]
 
 ghost use Rattle.std.specs.Prelude.{◌≡◌, ◌≤◌, get_or};
 ghost use Rattle.meaning.specs.Limits.{most_parameters};

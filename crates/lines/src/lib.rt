@@ -1,4 +1,6 @@
 // The listing's text: what the program prints for a book.
+#![tactic(auto)]
+
 mod entries;
 mod text;
 

@@ -1,4 +1,6 @@
 // Prints the listing of the book on standard input.
+#![tactic(auto)]
+
 use libc::{STDIN_FILENO, STDOUT_FILENO};
 
 // One byte more than a book may have, so that a longer one is seen to be too long.

@@ -1,1 +1,2 @@
 // The definitions stand in specs/, the theorems on them in proofs/. This crate has no code.
+#![tactic(auto)]

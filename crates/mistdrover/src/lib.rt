@@ -1,4 +1,6 @@
 // The public face: the five entries as C functions. Each returns the refusal number, 0 for none, and always fills the answer.
+#![tactic(auto)]
+
 ghost use Rattle.std.specs.Prelude.{◌≡◌};
 ghost use Rattle.mistdrover.specs.Face.{eight, FaceRead, FaceRun, FaceCheck, FaceFind, FaceLevel};
 

@@ -1,4 +1,6 @@
 // Reads books, readable and damaged, and prints what the reader answers.
+#![tactic(auto)]
+
 mod build;
 mod contents;
 mod damaged;

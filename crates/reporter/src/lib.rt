@@ -1,4 +1,6 @@
 // The level reporter: the refusals in the order of their numbers, or the level of a procedure's answer.
+#![tactic(auto)]
+
 ghost use Rattle.std.specs.Prelude.{◌≡◌};
 ghost use Rattle.meaning.specs.Entries.{Reports};
 ghost use Rattle.flow.specs.Settling.{Sized};

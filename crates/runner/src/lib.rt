@@ -1,4 +1,6 @@
 // A run of a procedure of a recipe book, with its steps counted and its call depth bounded.
+#![tactic(auto)]
+
 ghost use Rattle.std.specs.Prelude.{◌≤◌};
 ghost use Rattle.meaning.specs.Entries.{Runs};
 ghost use Rattle.book.proofs.Readable.{BookHere};

@@ -1,6 +1,8 @@
 // The worked books with every budget that document 01 names, and many more runs. A line for each run: its name, the refusal,
 // the ending, the value, the steps, and the cells afterwards: 0 as they were, 1 the first 1,024 are 0 and the others as they
 // were, 2 anything else.
+#![tactic(auto)]
+
 use io::print_decimal;
 use libc::STDOUT_FILENO;
 

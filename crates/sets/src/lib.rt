@@ -1,4 +1,6 @@
 // A set of parameters: one byte, bit i for parameter i.
+#![tactic(auto)]
+
 ghost use Rattle.std.specs.Prelude.{◌≡◌, ◌≤◌, ◌<◌};
 ghost use Rattle.meaning.specs.Limits.{most_parameters};
 ghost use Rattle.meaning.specs.Sets.{single, union, member, inside, upto};
