@@ -2,12 +2,12 @@
 use mathlib.Core.Path.{◌≡◌, refl, ap}
 use mathlib.Core.List.{List, [], ◌∷◌, map}
 use mathlib.Core.Option.{some}
-use Prim.Native.Nat.{ℕ, zero, suc}
+use Prim.Native.Nat.{ℕ, zero, suc, ◌+◌, ◌*◌}
 use native.Mathlib.Omega.{arith}
 use lib.Dec.{eqb, ltb}
 use lib.ListN.{length, get_or, take, drop, get_elem?}
 use Rattle.meaning.specs.Limits.{most_depth}
-use Rattle.meaning.specs.Tree.{Expr, Args, Cmd, Run, Closing, Procedure, Book, variables, placed, placed_in, placed_of}
+use Rattle.meaning.specs.Tree.{Expr, Args, Cmd, Run, Closing, Procedure, Book, variables, loops_of, placed, placed_in, placed_of}
 use Rattle.meaning.specs.Reading.{Parsed, got, bad, Scope, no_variable, no_procedure, left_over, arguments, constant_at, expr, run, command, closing, closes, body}
 use Rattle.meaning.specs.Reading.{Entry, entries, arities, scope, body_of, bodies, placed_all, read, readable}
 use Rattle.meaning.specs.Reading.{ExprForm, a_constant, a_variable, an_operation, a_call, no_expression, expr_form, expr_of, operations}
@@ -169,12 +169,12 @@ module _ (ar : List ℕ) where
   fit_placed_all : (k : ℕ) {qs : Book} → All (FitsIn ar) qs → All (FitsIn ar) (placed_all k qs)
   unfolding placed_all
   fit_placed_all k done = done
-  fit_placed_all k (also {a = q} h hs) = also (fit_placed_of q.body (variables q) k h) (fit_placed_all _ hs)
+  fit_placed_all k (also {a = q} h hs) = also (fit_placed_of q.body (variables q) k h) (fit_placed_all (k + variables q * loops_of q.body) hs)
 
 arity_placed : (k : ℕ) (qs : Book) → arity (placed_all k qs) ≡ arity qs
 unfolding arity placed_all
 arity_placed k [] = refl
-arity_placed k (q ∷ qs) = ap (λ l. q.parameters ∷ l) (arity_placed _ qs)
+arity_placed k (q ∷ qs) = ap (λ l. q.parameters ∷ l) (arity_placed (k + variables q * loops_of q.body) qs)
 
 -- The calls of a book fit.
 pub record Fitting (b : Book) : Type 0 where

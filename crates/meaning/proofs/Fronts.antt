@@ -83,8 +83,8 @@ pub grow_front : {n m : ℕ} {σ τ : List ℕ} {ds : List (Need ℕ)} → SameS
     All (Placed n) ds → All (Placed m) ds → SameSets (grow σ ds) (grow τ ds)
 unfolding grow
 grow_front same e f done done = same
-grow_front {σ} {τ} same e f (also {a = d} p h) (also q i) =
-    grow_front (add_front d same (rw e p.exists) (rw f q.exists))
+grow_front {σ = σ} {τ = τ} same e f (also {a = d} p h) (also q i) =
+    grow_front {σ = add σ d} {τ = add τ d} (add_front d same (rw e p.exists) (rw f q.exists))
     (length-set σ d.place (union (at σ d.place) d.needed) ∙ e)
     (length-set τ d.place (union (at τ d.place) d.needed) ∙ f)
     h i

@@ -120,15 +120,18 @@ grow_met σ e (also {a = d} {s = ds} p h) =
     (grow_met (add σ d) (length-set σ d.place (union (at σ d.place) d.needed) ∙ e) h)
 
 -- Needs at other places leave a place as it was.
-pub grow_other : (σ : List ℕ) {ds : List (Need ℕ)} (k : ℕ) → All (λ d. k ≢ d.place) ds → at (grow σ ds) k ≡ at σ k
+other_kept : (k : ℕ) (σ : List ℕ) {ds : List (Need ℕ)} → All (λ d. k ≢ d.place) ds → at (grow σ ds) k ≡ at σ k
 unfolding grow
-grow_other σ k done = refl
-grow_other σ k (also {a = d} n h) = grow_other (add σ d) k h ∙ at_add_other σ d k n
+other_kept k σ done = refl
+other_kept k σ (also {a = d} n h) = other_kept k (add σ d) h ∙ at_add_other σ d k n
 
-pub grow_least : {σ τ : List ℕ} {ds : List (Need ℕ)} → Below σ τ → All (Met τ) ds → Below (grow σ ds) τ
+pub grow_other : (σ : List ℕ) {ds : List (Need ℕ)} (k : ℕ) → All (λ d. k ≢ d.place) ds → at (grow σ ds) k ≡ at σ k
+grow_other σ k h = other_kept k σ h
+
+pub grow_least : {τ σ : List ℕ} {ds : List (Need ℕ)} → Below σ τ → All (Met τ) ds → Below (grow σ ds) τ
 unfolding grow
 grow_least b done = b
-grow_least b (also {a = d} m h) = grow_least (add_least d b m) h
+grow_least {τ = τ} {σ = σ} b (also {a = d} m h) = grow_least {τ = τ} {σ = add σ d} (add_least d b m) h
 
 -- The round adds nothing just where all needs are met.
 pub met_still : (σ : List ℕ) {ds : List (Need ℕ)} → All (Met σ) ds → grow σ ds ≡ σ

@@ -5,14 +5,14 @@ use mathlib.Core.Logic.{inl, inr}
 use mathlib.Core.Bool.{Bool, true, false}
 use mathlib.Core.List.{List, [], ◌∷◌}
 use mathlib.Core.Option.{some}
-use Prim.Native.Nat.{ℕ, zero, suc, ◌+◌, ◌<◌, ◌≤◌}
+use Prim.Native.Nat.{ℕ, zero, suc, ◌+◌, ◌*◌, ◌<◌, ◌≤◌}
 use native.Mathlib.Omega.{arith}
 use borrow.Author.Tests.{ltb-true, eqb-true}
 use lib.Dec.{eqb, ltb}
 use lib.ListN.{length, get_or, take, drop, get_elem?, length-take, length-drop, length-map}
 use lib.Seq.{get_or-take, get_or-drop}
 use Rattle.meaning.specs.Limits.{most_depth}
-use Rattle.meaning.specs.Tree.{Expr, Cmd, Run, Closing, Procedure, Book, variables, placed, placed_in, placed_of}
+use Rattle.meaning.specs.Tree.{Expr, Cmd, Run, Closing, Procedure, Book, variables, loops_of, placed, placed_in, placed_of}
 use Rattle.meaning.specs.Tree.{call, assign, branch, loop, stop, then, first, give, pick}
 use Rattle.meaning.specs.Reading.{Parsed, got, bad, and_then, next, passing, until, Scope, no_variable, no_procedure, left_over}
 use Rattle.meaning.specs.Reading.{arguments, constant_at, expr, run, command, closing, closes, body}
@@ -214,7 +214,7 @@ module _ (C : ℕ → Type 0) where
 calls_placed_all : (C : Entry → ℕ → Type 0) (k : ℕ) {es : List Entry} {qs : Book} → Pairs (CallsIt C) es qs → Pairs (CallsIt C) es (placed_all k qs)
 unfolding placed_all
 calls_placed_all C k done = done
-calls_placed_all C k (also {a = e} {b = q} h hs) = also (calls_placed_of (C e) q.body (variables q) k h) (calls_placed_all C _ hs)
+calls_placed_all C k (also {a = e} {b = q} h hs) = also (calls_placed_of (C e) q.body (variables q) k h) (calls_placed_all C (k + variables q * loops_of q.body) hs)
 
 pairs_at : {A B : Type 0} {R : A → B → Type 0} {s : List A} {t : List B} → Pairs R s t → (i : ℕ) {b : B} → get_elem? t i ≡ some b → (d : A) → R (get_or s i d) b
 pairs_at done i e d = let z : ◌≡◌ {A = ℕ} 0 1 = cc in absurd (omega arith)
