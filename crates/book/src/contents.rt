@@ -1,6 +1,6 @@
 // The table of contents.
 ghost use Rattle.std.specs.Prelude.{◌≡◌, ◌≤◌, length, take};
-ghost use Rattle.meaning.specs.Reading.{contents as contentsOf, in_turn, contents_end, entries, arities as arities_of};
+ghost use Rattle.meaning.specs.Reading.{contents as contents_of, in_turn, contents_end, entries, arities as arities_of};
 ghost use Rattle.book.specs.Contents.{Listed};
 
 use crate::bytes::{number, pair};
@@ -16,7 +16,7 @@ pub const MOST_LOCALS: u8 = 8;
 // The contents keep every rule.
 pub fn contents(book: &[u8]) -> bool
     requires { 1 ≤ length book.now }
-    ensures { result ≡ contentsOf book.now }
+    ensures { result ≡ contents_of book.now }
 {
     let count = number(book[0]);
     if count < 1 {

@@ -1,0 +1,9 @@
+-- `constant` meets its contract.
+use Rattle.book.proofs.Laws.Expressions.{constant_short, constant_whole}
+use Rattle.book.proofs.expression.constant.Goals as goal
+
+pub returns-then-part-lt5 : goal.returns-then-part-lt5
+returns-then-part-lt5 c = search constant_short
+
+pub returns-else-part-lt5 : goal.returns-else-part-lt5
+returns-else-part-lt5 c = search constant_whole
