@@ -6,7 +6,7 @@ use crate::closing::body;
 use crate::contents::ENTRY_BYTES;
 use crate::taken::Taken;
 
-#[derive(Drop)]
+#[derive(Clone, Copy)]
 pub enum Counted {
     // Every body was read: the loops, and the sets of their rows.
     Sets { loops: usize, sets: usize },

@@ -15,7 +15,7 @@ ghost use Rattle.meaning.specs.Entries.{Reads};
 use crate::verdict::{Verdict, judge};
 
 // The refusal, 0 where there is none, and the size of the book's summary.
-#[derive(Drop)]
+#[derive(Clone, Copy)]
 pub struct ReadAnswer {
     pub refusal: u8,
     pub size: usize,

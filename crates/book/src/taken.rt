@@ -2,7 +2,7 @@
 ghost use Rattle.std.specs.Prelude.{◌≡◌, ◌+◌, ◌<◌, ◌^◌};
 ghost use Rattle.book.specs.Taken.{plus, span, loops_taken};
 
-#[derive(Drop)]
+#[derive(Clone, Copy)]
 pub enum Taken {
     // The part was read: its bytes, and the loops among them.
     Bytes { taken: usize, loops: usize },

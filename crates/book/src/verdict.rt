@@ -7,7 +7,7 @@ use crate::bodies::{Counted, bodies};
 use crate::bytes::number;
 use crate::contents::{arities, contents};
 
-#[derive(Drop)]
+#[derive(Clone, Copy)]
 pub enum Verdict {
     // The bytes are a book whose summary has this size.
     Readable {

@@ -76,7 +76,7 @@ fn call(book: &[u8], old: &[Bits; PLACES], at: usize, sets: &[Bits; WIDTH]) -> u
 const ARGUMENTS: usize = 8;
 
 // The argument sets of a call.
-#[derive(Drop)]
+#[derive(Clone, Copy)]
 struct Given {
     sets: [Bits; ARGUMENTS],
 }

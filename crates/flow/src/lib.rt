@@ -45,7 +45,7 @@ pub fn check_readable(book: &[u8], size: usize, summary: &[u8]) -> u8
 }
 
 // The finder's answer: the refusal, 0 where there is none, the summary's size and the number of rounds.
-#[derive(Drop)]
+#[derive(Clone, Copy)]
 pub struct FindAnswer {
     pub refusal: u8,
     pub size: usize,

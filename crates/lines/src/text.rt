@@ -6,7 +6,7 @@ ghost use Rattle.lines.specs.Says.{room, Says, Grown};
 // 32 lines of 16 bytes.
 pub const ROOM: usize = 512;
 
-#[derive(Drop)]
+#[derive(Clone, Copy)]
 pub struct Text {
     pub bytes: [u8; ROOM],
     pub len: usize,

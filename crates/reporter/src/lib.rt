@@ -13,7 +13,7 @@ use levels::{count, reported, valid};
 use sets::Set;
 
 // The refusal, 0 where there is none, and the level.
-#[derive(Drop)]
+#[derive(Clone, Copy)]
 pub struct LevelAnswer {
     pub refusal: u8,
     pub level: u8,

@@ -25,7 +25,7 @@ use book::bytes::number;
 
 // A run's answer in document 01's numbers: the refusal, or 0 and the ending (1 finished, 2 out of steps, 3 too deep), the
 // value (0 unless finished) and the steps spent.
-#[derive(Drop)]
+#[derive(Clone, Copy)]
 pub struct RunAnswer {
     pub refusal: u8,
     pub ending: u8,

@@ -5,7 +5,7 @@ use crate::contents::parameters;
 use book::bytes::number;
 
 // Where a part's head ends, and how many parts follow inside it.
-#[derive(Drop)]
+#[derive(Clone, Copy)]
 pub struct Head {
     pub next: usize,
     pub more: usize,

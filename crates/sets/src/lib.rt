@@ -8,7 +8,7 @@ ghost use Rattle.meaning.specs.Sets.{single, union, member, inside, upto};
 // A set as a number.
 pub type Bits = u8;
 
-#[derive(Drop)]
+#[derive(Clone, Copy)]
 pub struct Set {
     pub bits: Bits,
 }

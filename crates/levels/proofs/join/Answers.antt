@@ -1,0 +1,22 @@
+-- The place of two levels' entry fits, since each factor is a byte.
+use Prim.Native.Nat.{◌*◌, ◌≤◌}
+use native.Mathlib.Omega.{arith}
+use Rattle.meaning.specs.Levels.{join}
+use Rattle.levels.proofs.Laws.{bytes_product}
+use Rattle.levels.proofs.join.Goals as goal
+
+product : (c : tie.After-count) → c.count.result * c.before.before.args.a ≤ 65025
+product c = bytes_product c.count.result c.before.before.args.a (omega arith) (omega arith)
+
+pub overflow_mul-n : goal.overflow_mul-n
+overflow_mul-n c = omega (arith, product c)
+
+pub overflow_add-n : goal.overflow_add-n
+overflow_add-n c = omega (arith, product c)
+
+pub overflow_add-n-2 : goal.overflow_add-n-2
+overflow_add-n-2 c = omega (arith, product c)
+
+pub returns : goal.returns
+unfolding join
+returns c = cc
