@@ -5,17 +5,14 @@ use Rattle.meaning.specs.Levels.{join}
 use Rattle.levels.proofs.Laws.{bytes_product}
 use Rattle.levels.proofs.join.Goals as goal
 
-product : (c : tie.After-count) → c.count.result * c.before.before.args.a ≤ 65025
-product c = bytes_product c.count.result c.before.before.args.a (omega arith) (omega arith)
-
 pub overflow_mul-n : goal.overflow_mul-n
-overflow_mul-n c = omega (arith, product c)
+overflow_mul-n c = omega (arith, (bytes_product c.count-n.result c.args.a (omega arith) (omega arith)))
 
 pub overflow_add-n : goal.overflow_add-n
-overflow_add-n c = omega (arith, product c)
+overflow_add-n c = omega (arith, (bytes_product c.count-n.result c.args.a (omega arith) (omega arith)))
 
 pub overflow_add-n-2 : goal.overflow_add-n-2
-overflow_add-n-2 c = omega (arith, product c)
+overflow_add-n-2 c = omega (arith, (bytes_product c.count-n.result c.args.a (omega arith) (omega arith)))
 
 pub returns : goal.returns
 unfolding join

@@ -1,4 +1,5 @@
 -- Each loop has kept its laws as far as it has come; a way out by the label has met a law that fails.
+use mathlib.Core.Path.{refl}
 use native.Mathlib.Omega.{arith}
 use borrow.Author.Rules.{rules}
 use Rattle.levels.proofs.Upto.{triples_none, triples_more, pairs_none, pairs_more, laws_none, laws_more, laws_all}
@@ -15,10 +16,16 @@ pub loop-c-init : goal.loop-c-init
 loop-c-init c = (search rules, search rules, search triples_none)
 
 pub loop-c-preserved : goal.loop-c-preserved
-loop-c-preserved c = ( search rules, omega arith, triples_more _ _ _ _ c.loop-c.invariant.2 c.associates.ensures c.if-not-associates.false, )
+loop-c-preserved c =
+    (search rules, omega arith, triples_more _ _ _ _ c.loop-c.invariant.2 c.associates.ensures (rw c.if-not-associates.false refl))
 
 pub loop-b-preserved : goal.loop-b-preserved
-loop-b-preserved c = let d = c.before in let l = d.before.before.before.before.before in ( search rules, omega arith, pairs_more _ _ _ _ _ l.before.before.before.before.before.count.ensures l.loop.invariant.2 d.before.before.before.stays.ensures d.before.before.if2.false d.before.commutes.ensures d.if3.false c.loop-c.invariant.1 c.loop-c-test.false c.loop-c.invariant.2, )
+loop-b-preserved c = (
+  search rules,
+  omega arith,
+  pairs_more _ _ _ _ _ c.count-n.ensures c.loop-b.invariant.2 c.stays.ensures (rw c.if-not-stays.false refl)
+      c.commutes.ensures (rw c.if-not-commutes.false refl) c.loop-c.invariant.1 c.loop-c-test.false c.loop-c.invariant.2,
+)
 
 pub laws-preserved : goal.laws-preserved
 laws-preserved c = (search rules, omega arith, search laws_more)

@@ -5,9 +5,6 @@ use Rattle.levels.proofs.Laws.{bytes_product}
 use Rattle.levels.proofs.Tests.{no_levels, many_levels, some_levels}
 use Rattle.levels.proofs.shaped.Goals as goal
 
-product : (c : tie.Else2) → c.before.before.count.result * c.before.before.count.result ≤ 65025
-product c = bytes_product c.before.before.count.result c.before.before.count.result (omega arith) (omega arith)
-
 pub returns-then-n-lt1 : goal.returns-then-n-lt1
 returns-then-n-lt1 c = search no_levels
 
@@ -15,10 +12,10 @@ pub returns-then-n-gt16 : goal.returns-then-n-gt16
 returns-then-n-gt16 c = search many_levels
 
 pub overflow_mul-result : goal.overflow_mul-result
-overflow_mul-result c = omega (arith, product c)
+overflow_mul-result c = omega (arith, (bytes_product c.count-n.result c.count-n.result (omega arith) (omega arith)))
 
 pub overflow_add-result : goal.overflow_add-result
-overflow_add-result c = omega (arith, product c)
+overflow_add-result c = omega (arith, (bytes_product c.count-n.result c.count-n.result (omega arith) (omega arith)))
 
 pub returns : goal.returns
 returns c = search some_levels
