@@ -1,5 +1,5 @@
 -- The listing by what the finder left in a buffer that is long enough for every book.
-use mathlib.Core.Path.{◌≡◌, refl, sym, ap, ◌∙◌}
+use mathlib.Core.Path.{◌≡◌, refl, ap, ◌∙◌}
 use mathlib.Core.Bool.{true}
 use mathlib.Core.List.{List, [], ◌∷◌, ◌++◌}
 use mathlib.Core.Logic.{◌⊎◌, inl, inr, ⊎_elim}
@@ -10,10 +10,9 @@ use lib.ListN.{length, take, drop, length-append, length-map}
 use lib.Seq.{take_at}
 use borrow.Author.Tests.{le-leb}
 use Rattle.meaning.specs.Limits.{most_procedures, most_parameters, most_locals, most_loops}
-use Rattle.meaning.specs.Tree.{Book}
 use Rattle.meaning.specs.Reading.{Reading, refused, readable, read}
 use Rattle.meaning.specs.Flow.{size, limits, find}
-use Rattle.meaning.specs.Answers.{find_answer, find_book, no_find, decimal, lines, refused_text, listing}
+use Rattle.meaning.specs.Answers.{find_answer, find_book, no_find, decimal, refused_text, listing}
 use Rattle.meaning.specs.Entries.{FindsIn}
 use Rattle.meaning.proofs.Readable.{refused_number}
 use Rattle.meaning.proofs.Places.{laid}

@@ -1,7 +1,7 @@
 -- The lines of a book, one procedure after another.
 use mathlib.Core.Path.{◌≡◌, refl, sym, ap, ◌∙◌}
 use mathlib.Core.List.{List, [], ◌∷◌, ◌++◌, append_assoc, append-nil}
-use mathlib.Core.Option.{some, none}
+use mathlib.Core.Option.{some}
 use Prim.Native.Nat.{ℕ, zero, suc, ◌+◌, ◌*◌, ◌<◌, ◌≤◌}
 use native.Mathlib.Numerals.{add-one}
 use native.Mathlib.Omega.{arith}
@@ -11,8 +11,8 @@ use Rattle.meaning.specs.Tree.{Procedure, Book}
 use Rattle.meaning.specs.Reading.{entry, procedures}
 use Rattle.meaning.specs.Sets.{empty}
 use Rattle.meaning.specs.Flow.{at}
-use Rattle.meaning.specs.Answers.{lines, decimal}
-use Rattle.book.proofs.Readable.{BookHere, ProcedureView}
+use Rattle.meaning.specs.Answers.{lines}
+use Rattle.book.proofs.Readable.{BookHere}
 use Rattle.book.proofs.Sound.{book_facts, procedure_view}
 use Rattle.lines.specs.Says.{Says, Grown, line_of, line_bytes}
 use Rattle.lines.specs.Listed.{Listed, EntryPost}

@@ -8,7 +8,7 @@ use Prim.Native.Nat.{ℕ, ◌+◌, ◌*◌, ◌≤◌, ◌<◌}
 use native.Mathlib.Omega.{arith}
 use lib.ListN.{length, get_or, length-map, get_or-map, get_elem?}
 use Rattle.meaning.specs.Limits.{most_parameters}
-use Rattle.meaning.specs.Lists.{each, fold}
+use Rattle.meaning.specs.Lists.{fold}
 use Rattle.meaning.specs.Sets.{empty, single, upto, gather, ◌⊆◌}
 use Rattle.meaning.specs.Tree.{Procedure, Book, variables, loops_of}
 use Rattle.meaning.specs.Flow.{at, by_sets, start_sets, row_limits, limits, size, demands, meets, grow}

@@ -10,7 +10,6 @@ use native.Mathlib.Decide.{ℕ_discrete}
 use lib.ListN.{length, get_or, length-append, get_or-append}
 use lib.Seq.{get_or_at}
 use Rattle.meaning.specs.Lists.{each, fold, every, some_below}
-use Rattle.meaning.proofs.Starred
 
 -- A conjunction that holds, in its parts and back.
 pub both_left : (a b : Bool) → (a && b) ≡ true → a ≡ true

@@ -1,13 +1,12 @@
 -- A finder that walks a body only if something that it reads has changed answers what `find` answers: the same summary, the same rounds.
 use mathlib.Core.Path.{◌≡◌, refl, sym, ap, ◌∙◌}
 use mathlib.Core.Logic.{inl, inr}
-use mathlib.Core.Bool.{Bool, true, false, not, cond}
+use mathlib.Core.Bool.{Bool, true, false, cond}
 use mathlib.Core.List.{List, [], ◌∷◌, ◌++◌}
 use mathlib.Core.Option.{some}
 use Prim.Native.Nat.{ℕ, zero, suc, ◌<◌}
 use native.Mathlib.Omega.{arith}
 use lib.ListN.{length, get_elem?, replicate, length-replicate}
-use Rattle.meaning.specs.Lists.{every}
 use Rattle.meaning.specs.Sets.{empty}
 use Rattle.meaning.specs.Tree.{Procedure, Book}
 use Rattle.meaning.specs.Reading.{readable, read}

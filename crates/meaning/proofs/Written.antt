@@ -13,7 +13,7 @@ use lib.ListN.{length, get_or, take, drop, get_elem?, length-take, length-drop, 
 use lib.Seq.{get_or-take, get_or-drop}
 use Rattle.meaning.specs.Limits.{most_depth}
 use Rattle.meaning.specs.Tree.{Expr, Cmd, Run, Closing, Procedure, Book, variables, loops_of, placed, placed_in, placed_of}
-use Rattle.meaning.specs.Tree.{call, assign, branch, loop, stop, then, first, give, pick}
+use Rattle.meaning.specs.Tree.{assign, branch, loop, stop, then, first, give, pick}
 use Rattle.meaning.specs.Reading.{Parsed, got, bad, and_then, next, passing, until, Scope, no_variable, no_procedure, left_over}
 use Rattle.meaning.specs.Reading.{arguments, constant_at, expr, run, command, closing, closes, body}
 use Rattle.meaning.specs.Reading.{Entry, entry, procedures, entries, arities, scope, body_of, bodies, placed_all, read, readable}

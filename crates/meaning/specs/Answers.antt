@@ -6,7 +6,7 @@ use Rattle.std.proofs.Math.ListN.{get_elem?}
 use Rattle.meaning.specs.Limits.{most_calls, most_steps, least_cells}
 use Rattle.meaning.specs.Lists.{every}
 use Rattle.meaning.specs.Tree.{Procedure, Book}
-use Rattle.meaning.specs.Reading.{Reading, refused, readable, read}
+use Rattle.meaning.specs.Reading.{refused, readable, read}
 use Rattle.meaning.specs.Running.{Ending, out_of_steps, too_deep, Out, done, ended, runs}
 use Rattle.meaning.specs.Flow.{at, size, satisfies, find}
 use Rattle.meaning.specs.Levels.{levels, valid, reported}

@@ -1,5 +1,5 @@
 -- Level tables, the order of levels, and the reported level.
-use Rattle.std.specs.Prelude.{Bool, true, false, ◌&&◌, cond, List, ℕ, ◌+◌, ◌*◌, eqb, leb, ltb, length, get_or}
+use Rattle.std.specs.Prelude.{Bool, ◌&&◌, cond, List, ℕ, ◌+◌, ◌*◌, eqb, leb, ltb, length, get_or}
 use Rattle.meaning.specs.Limits.{most_levels}
 use Rattle.meaning.specs.Lists.{fold, every, some_below}
 use Rattle.meaning.specs.Sets.{member}

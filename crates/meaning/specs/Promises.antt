@@ -1,10 +1,10 @@
 -- What is promised of the entries' answers, each promise a type. `meaning/proofs` has a proof of each, under its name in small letters.
-use Rattle.std.specs.Prelude.{◌≡◌, ◌≢◌, ◌↔◌, Bool, true, false, List, [], ◌∷◌, ℕ, zero, suc, ◌+◌, ◌*◌, ◌≤◌, ◌<◌, length, get_or, take, replicate}
+use Rattle.std.specs.Prelude.{◌≡◌, ◌≢◌, ◌↔◌, true, List, ℕ, zero, suc, ◌+◌, ◌*◌, ◌≤◌, ◌<◌, length, get_or, take, replicate}
 use Rattle.std.proofs.Math.Option.{some}
 use Rattle.std.proofs.Math.ListN.{get_elem?}
 use Rattle.meaning.specs.Limits.{most_parameters, most_levels}
 use Rattle.meaning.specs.Sets.{empty, union, member, upto, ◌⊆◌}
-use Rattle.meaning.specs.Tree.{Expr, Args, Cmd, Run, Closing, Procedure, Book, variables}
+use Rattle.meaning.specs.Tree.{Cmd, Run, Closing, Procedure, Book, variables}
 use Rattle.meaning.specs.Tree.{assign, branch, loop, stop, then, first, give, pick}
 use Rattle.meaning.specs.Reading.{readable, read}
 use Rattle.meaning.specs.Flow.{at, by_sets, flow, afters, after, row, start_sets, limits, size, demands, grow}

@@ -1,10 +1,10 @@
 -- Reading bytes into the tree of a book, with every rule of 'The recipe book'.
 use Rattle.std.specs.Prelude.{Bool, true, false, ◌&&◌, List, [], ◌∷◌, map, ℕ, zero, suc, ◌+◌, ◌*◌, eqb, leb, ltb, length, get_or, take, drop}
-use Rattle.std.proofs.Math.Option.{Option, some, none}
+use Rattle.std.proofs.Math.Option.{some, none}
 use Rattle.std.proofs.Math.ListN.{get_elem?}
 use Rattle.meaning.specs.Limits.{most_bytes, most_procedures, entry_bytes, most_parameters, most_locals, most_depth, most_loops}
 use Rattle.meaning.specs.Lists.{each}
-use Rattle.meaning.specs.Tree.{Operation, sum, difference, product, quotient, equal, less, smaller, larger, Expr, Args, Cmd, Run, Closing, Procedure, Book}
+use Rattle.meaning.specs.Tree.{Operation, sum, difference, product, quotient, equal, less, smaller, larger, Expr, Args, Cmd, Run, Closing, Book}
 use Rattle.meaning.specs.Tree.{constant, variable, operation, call, nil, arg, assign, branch, loop, stop, then, first, give, pick, variables, loops_of, placed_of}
 
 -- Why a body breaks a rule, in the order in which the reasons rank at one byte.

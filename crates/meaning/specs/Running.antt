@@ -1,5 +1,5 @@
 -- Running a book: values, steps, budget, call depth, endings.
-use Rattle.std.specs.Prelude.{Bool, true, false, cond, List, [], ◌∷◌, ◌++◌, ℕ, zero, suc, ◌+◌, ◌-◌, ◌*◌, ◌/◌, ◌%◌, ◌^◌, min, max, eqb, ltb, get_or, set, replicate}
+use Rattle.std.specs.Prelude.{Bool, true, false, List, [], ◌∷◌, ◌++◌, ℕ, zero, suc, ◌+◌, ◌-◌, ◌*◌, ◌/◌, ◌%◌, ◌^◌, min, max, eqb, ltb, get_or, set, replicate}
 use Rattle.std.proofs.Math.Option.{some, none}
 use Rattle.std.proofs.Math.ListN.{get_elem?}
 use Rattle.meaning.specs.Tree.{Operation, sum, difference, product, quotient, equal, less, smaller, larger, Expr, Args, Cmd, Run, Closing, Procedure, Book}

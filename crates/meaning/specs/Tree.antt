@@ -1,5 +1,5 @@
 -- The tree of a book: what its bytes say.
-use Rattle.std.specs.Prelude.{List, [], ◌∷◌, ℕ, ◌+◌, ◌*◌}
+use Rattle.std.specs.Prelude.{List, ℕ, ◌+◌, ◌*◌}
 
 -- The eight operations.
 pub data Operation : Type 0 where

@@ -3,7 +3,7 @@ use Rattle.std.proofs.Common.{◌≡◌, ℕ, suc, ◌+◌, ◌-◌, ◌*◌, �
 use native.Mathlib.Decide.{ℕ_discrete}
 use lib.Seq.{take-set-lt}
 use Rattle.meaning.specs.Tree.{Cmd, assign, branch, loop, loops_in}
-use Rattle.meaning.specs.Running.{tick, Callee, value, turns, act, acts, runs}
+use Rattle.meaning.specs.Running.{tick, Callee, turns, act, acts, runs}
 use Rattle.book.proofs.Text.{RunHere}
 use Rattle.book.proofs.Views.{assign_view, branch_view, cmd_code, run_code}
 use Rattle.book.proofs.Views.Bounds.{expr_spans, run_spans}

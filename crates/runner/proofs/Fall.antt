@@ -1,5 +1,5 @@
 -- Call depth, steps left and bytes left, in this order, as one number that falls with each call of the cycle.
-use Rattle.std.proofs.Common.{◌≡◌, ℕ, ◌+◌, ◌-◌, ◌*◌, ◌^◌, ◌<◌, ◌≤◌, arith}
+use Rattle.std.proofs.Common.{◌≡◌, ℕ, ◌+◌, ◌*◌, ◌^◌, ◌<◌, ◌≤◌, arith}
 
 unfoldable pub fall : ℕ → ℕ → ℕ → ℕ
 fall d l r = (d * 2 ^ 32 + l) * 2 ^ 64 + r

@@ -8,7 +8,7 @@ pub loop-a-init : goal.loop-a-init
 loop-a-init c = (omega arith, search bottom_none)
 
 pub loop-a-preserved : goal.loop-a-preserved
-loop-a-preserved c = ( omega arith, elim c.if-is_bottom.branch [ then-is_bottom w ↦ search bottom_here | else-is_bottom w ↦ search bottom_not_here ], )
+loop-a-preserved c = (omega arith, elim c.if-is_bottom.branch [ then-is_bottom w ↦ search bottom_here | else-is_bottom w ↦ search bottom_not_here ])
 
 pub returns : goal.returns
 returns c = search bottom_all

@@ -1,5 +1,4 @@
 -- The place of two levels' entry fits, since each factor is a byte.
-use Prim.Native.Nat.{◌*◌, ◌≤◌}
 use native.Mathlib.Omega.{arith}
 use Rattle.meaning.specs.Levels.{join}
 use Rattle.levels.proofs.Laws.{bytes_product}

@@ -8,7 +8,7 @@ pub loop-i-init : goal.loop-i-init
 loop-i-init c = (omega arith, search reported_none)
 
 pub loop-i-preserved : goal.loop-i-preserved
-loop-i-preserved c = ( omega arith, elim c.if-has.branch [ then-has w ↦ search reported_in | else-has w ↦ search reported_out ], )
+loop-i-preserved c = (omega arith, elim c.if-has.branch [ then-has w ↦ search reported_in | else-has w ↦ search reported_out ])
 
 pub returns : goal.returns
 returns c = search reported_all

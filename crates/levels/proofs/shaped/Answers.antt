@@ -1,5 +1,4 @@
 -- Each way out goes by the number of levels.
-use Prim.Native.Nat.{◌*◌, ◌≤◌}
 use native.Mathlib.Omega.{arith}
 use Rattle.levels.proofs.Laws.{bytes_product}
 use Rattle.levels.proofs.Tests.{no_levels, many_levels, some_levels}

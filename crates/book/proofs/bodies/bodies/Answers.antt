@@ -1,7 +1,7 @@
 -- `bodies` meets its contract. The loop's invariant: the whole is what is left, behind the loops and sets of the bodies before.
 -- What the contents tell at the start, and in each turn of the entry at hand.
 -- The procedure has no more than 16 variables.
-use Prim.Native.Nat.{◌≤◌, ◌+◌, ◌*◌}
+use Prim.Native.Nat.{◌≤◌, ◌+◌}
 use native.Mathlib.Nat.{mul-le-mul_right}
 use native.Mathlib.Omega.{arith}
 use Rattle.book.proofs.Parts.{span_fault, loops_bytes}

@@ -1,6 +1,6 @@
 -- `in_turn` meets its contract. The loop's invariant: the rules hold of all entries just when they hold from entry `i` on.
 -- A body's length is two bytes.
-use Prim.Native.Nat.{◌<◌, ◌+◌, ◌*◌}
+use Prim.Native.Nat.{◌+◌, ◌*◌}
 use native.Mathlib.Omega.{arith}
 use Rattle.meaning.specs.Limits.{entry_bytes}
 use Rattle.book.proofs.Laws.Contents.{turns_begin, turns_offset, turns_parameters, turns_locals, turns_more, turns_end}

@@ -5,7 +5,7 @@ use Rattle.flow.proofs.called.behind.Goals.{then-book-i-eq19+then-p-lt-PROCEDURE
 pub loop-i-preserved : goal.loop-i-preserved
 loop-i-preserved c =
     elim c.if-book-i-eq19.branch [
-        then-book-i-eq19+then-p-lt-PROCEDURES w ↦ search hearing_new
+      | then-book-i-eq19+then-p-lt-PROCEDURES w ↦ search hearing_new
       | then-book-i-eq19+else-p-lt-PROCEDURES w ↦ search hearing_far
       | else-book-i-eq19 w ↦ search hearing_other
     ]

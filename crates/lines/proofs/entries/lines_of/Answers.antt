@@ -12,7 +12,7 @@ pub loop-p-init : goal.loop-p-init
 loop-p-init c = (search rules, search rules, shown_none c.new-text.ensures)
 
 pub entry_line-text-requires : goal.entry_line-text-requires
-entry_line-text-requires c = record { listable = c.requires; known = search rules; space = omega (arith, c.loop-p.invariant.2.short, (book_facts c.requires.here).few); }
+entry_line-text-requires c = record { listable = c.requires; known = search rules; space = omega (arith, c.loop-p.invariant.2.short, (book_facts c.requires.here).few) }
 
 pub overflow_step-p : goal.overflow_step-p
 overflow_step-p c = omega (arith, (book_facts c.requires.here).few)
