@@ -1,6 +1,5 @@
 // The levels of the inputs, and the files.
 ghost use Rattle.std.specs.Prelude.{◌≡◌, ◌≤◌, length, IfOk};
-ghost use Rattle.io.specs.Counts.{IsPrefixLen};
 
 use crate::arguments::{Asked, LONGEST, number_or_line};
 use std::env::{Env, FillError};
@@ -36,7 +35,7 @@ fn keep(levels: &mut [u8], at: usize, level: u8) -> usize
 
 // The levels that stand behind the procedure.
 pub fn levels_of(rt: HostRuntime, a: Asked, levels: &mut [u8]) -> io::Result<Got>
-    ensures { IfOk result (λ got. IsPrefixLen got.length levels.new) }
+    ensures { IfOk result (λ got. got.length ≤ length levels.new) }
 {
     let mut read = 0;
     for j in 4..a.plain() {
@@ -62,24 +61,28 @@ fn nothing() -> Got
     }
 }
 
-// A line on standard error: what failed, and why, in the system's words without the number that `std` writes behind them.
+// A line on standard error: what failed, and why.
 fn fail(rt: HostRuntime, what: &[u8], why: io::Error) -> io::Result<()> {
     let text = format!(in rt.alloc(); "{why}")?;
-    let words = match text.as_str().split_once(" (os error ") {
-        Some((words, _)) => words,
-        None => text.as_str(),
-    };
     let stderr = rt.stderr();
     stderr.write_all(b"audit: ")?;
     stderr.write_all(what)?;
     stderr.write_all(b": ")?;
-    stderr.write_all(words.as_bytes())?;
+    stderr.print(words_of(text.as_str()))?;
     stderr.write_all(b"\n")
+}
+
+// The system's words for an error, without the number that `std` writes behind them.
+fn words_of(text: &str) -> &str {
+    match text.split_once(" (os error ") {
+        Some((words, _)) => words,
+        None => text,
+    }
 }
 
 // The file that the argument at this place names, as far as the buffer goes; a line on standard error where it cannot be read.
 pub fn file_at(rt: HostRuntime, place: usize, buffer: &mut [u8]) -> io::Result<Got>
-    ensures { IfOk result (λ got. IsPrefixLen got.length buffer.new) }
+    ensures { IfOk result (λ got. got.length ≤ length buffer.new) }
 {
     let mut name = [0u8; LONGEST];
     match rt.arg(place, &mut name) {
@@ -101,7 +104,7 @@ fn no_name(e: FillError) -> io::Error {
 
 // The file of this name, as far as the buffer goes; a line on standard error where it cannot be read.
 fn named(rt: HostRuntime, name: &[u8], buffer: &mut [u8]) -> io::Result<Got>
-    ensures { IfOk result (λ got. IsPrefixLen got.length buffer.new) }
+    ensures { IfOk result (λ got. got.length ≤ length buffer.new) }
 {
     match read_named(rt, name, buffer) {
         Ok(length) => Ok(Got { ok: true, length }),
