@@ -1,16 +1,16 @@
 -- Reading a number digit by digit.
 use mathlib.Core.Path.{◌≡◌, refl, sym, ap, ◌∙◌}
-use mathlib.Core.Bool.{Bool, true, false, ◌&&◌}
+use mathlib.Core.Bool.{Bool, true, false}
 use mathlib.Core.List.{List}
-use Prim.Native.Nat.{ℕ, suc, ◌+◌, ◌-◌, ◌*◌, ◌^◌, ◌≤◌, ◌<◌}
+use Prim.Native.Nat.{ℕ, ◌+◌, ◌-◌, ◌*◌, ◌^◌, ◌≤◌, ◌<◌}
 use native.Mathlib.Nat.{pow-succ', pow-le-pow_right}
 use native.Mathlib.Numerals.{add-one}
 use native.Mathlib.Omega.{arith}
-use borrow.Author.Tests.{le-leb, lt-leb, leb-true}
+use borrow.Author.Tests.{le-leb, leb-true}
 use lib.Dec.{leb}
 use lib.ListN.{length, get_or}
 use Rattle.meaning.specs.Lists.{fold, every}
-use Rattle.meaning.proofs.Lists.{both, both_left, both_right, every_sound, holds_or_fails}
+use Rattle.meaning.proofs.Lists.{both, both_left, both_right, every_sound}
 use Rattle.audit.specs.Decimal.{most_digits, is_digit, digits_to, value_to, is_number, ReadsNumber}
 
 -- The first i digits are read.

@@ -1,8 +1,10 @@
 // The levels of the inputs, and the files.
-ghost use Rattle.std.specs.Prelude.{◌≡◌, ◌≤◌, length};
-ghost use Rattle.io.specs.Counts.{IsPrefixLen};
+ghost use Rattle.std.specs.Prelude.{◌≡◌, ◌≤◌, length, IfOk};
 
-use crate::arguments::{Asked, number_or_line};
+use crate::arguments::{Asked, LONGEST, number_or_line};
+use std::env::{Env, FillError};
+use std::io::{ErrorKind, Read};
+use std::{fs, io, str};
 
 // One more than the most parameters: a ninth level is one too many for every procedure.
 pub const MOST_LEVELS: usize = 9;
@@ -32,21 +34,21 @@ fn keep(levels: &mut [u8], at: usize, level: u8) -> usize
 }
 
 // The levels that stand behind the procedure.
-pub fn levels_of(a: Asked, levels: &mut [u8]) -> Got
-    ensures { IsPrefixLen result.length levels.new }
+pub fn levels_of(rt: HostRuntime, a: Asked, levels: &mut [u8]) -> io::Result<Got>
+    ensures { IfOk result (λ got. got.length ≤ length levels.new) }
 {
     let mut read = 0;
     for j in 4..a.plain() {
-        let n = number_or_line(a.place(j));
+        let n = number_or_line(rt, a.place(j))?;
         if !n.known {
-            return nothing();
+            return Ok(nothing());
         }
         read = keep(levels, read, level(n.value));
     }
-    Got {
+    Ok(Got {
         ok: true,
         length: read,
-    }
+    })
 }
 
 // Nothing was read.
@@ -59,38 +61,92 @@ fn nothing() -> Got
     }
 }
 
-// A line on standard error: what failed, and why the last call did.
-fn fail(what: &[u8]) {
-    io::write_all(libc::STDERR_FILENO, b"audit: ");
-    os::fail(what);
+// A line on standard error: what failed, and why.
+fn fail(rt: HostRuntime, what: &[u8], why: io::Error) -> io::Result<()> {
+    let text = format!(in rt.alloc(); "{why}")?;
+    let stderr = rt.stderr();
+    stderr.write_all(b"audit: ")?;
+    stderr.write_all(what)?;
+    stderr.write_all(b": ")?;
+    stderr.print(words_of(text.as_str()))?;
+    stderr.write_all(b"\n")
+}
+
+// The system's words for an error, without the number that `std` writes behind them.
+fn words_of(text: &str) -> &str {
+    match text.split_once(" (os error ") {
+        Some((words, _)) => words,
+        None => text,
+    }
 }
 
 // The file that the argument at this place names, as far as the buffer goes; a line on standard error where it cannot be read.
-pub fn file_at(place: usize, buffer: &mut [u8]) -> Got
-    ensures { IsPrefixLen result.length buffer.new }
+pub fn file_at(rt: HostRuntime, place: usize, buffer: &mut [u8]) -> io::Result<Got>
+    ensures { IfOk result (λ got. got.length ≤ length buffer.new) }
 {
-    let mut path = io::buffer();
-    let n = os::arg(place, &mut path);
-    if os::errno() != 0 {
-        fail(b"a file's name");
-        return nothing();
+    let mut name = [0u8; LONGEST];
+    match rt.arg(place, &mut name) {
+        Ok(n) => named(rt, &name[..n], buffer),
+        Err(e) => {
+            fail(rt, b"a file's name", no_name(e))?;
+            Ok(nothing())
+        }
     }
-    let fd = os::open_read(&path[..n]);
-    if fd < 0 {
-        fail(&path[..n]);
-        return nothing();
-    }
-    let length = io::read_full(fd, buffer);
-    let ok = !fails(fd);
-    if !ok {
-        fail(&path[..n]);
-    }
-    libc::close(fd);
-    Got { ok, length }
 }
 
-// Whether one more read fails: at the end of a file it does not.
-fn fails(fd: i32) -> bool {
+// Why an argument gives no name.
+fn no_name(e: FillError) -> io::Error {
+    match e {
+        FillError::TooLong => io::Error::new(ErrorKind::InvalidFilename, "File name too long"),
+        FillError::NotPresent => io::Error::new(ErrorKind::InvalidInput, "Invalid argument"),
+    }
+}
+
+// The file of this name, as far as the buffer goes; a line on standard error where it cannot be read.
+fn named(rt: HostRuntime, name: &[u8], buffer: &mut [u8]) -> io::Result<Got>
+    ensures { IfOk result (λ got. got.length ≤ length buffer.new) }
+{
+    match read_named(rt, name, buffer) {
+        Ok(length) => Ok(Got { ok: true, length }),
+        Err(why) => {
+            fail(rt, name, why)?;
+            Ok(nothing())
+        }
+    }
+}
+
+// How many bytes of the file of this name stand at the buffer's start, or why it cannot be read. `std` opens files by names in UTF-8 alone.
+fn read_named(rt: HostRuntime, name: &[u8], buffer: &mut [u8]) -> io::Result<usize>
+    ensures { IfOk result (λ n. n ≤ length buffer.new) }
+{
+    let Ok(name) = str::from_utf8(name) else {
+        return Err(io::Error::new(ErrorKind::InvalidFilename, "File name not in UTF-8"));
+    };
+    let mut file = fs::open(&rt, name)?;
+    let length = read_full(&mut file, buffer)?;
+    match fails(&mut file) {
+        None => Ok(length),
+        Some(why) => Err(why),
+    }
+}
+
+// Reads until the buffer is full or the file ends, and answers how many bytes stand at its start.
+fn read_full(file: &mut impl Read, buffer: &mut [u8]) -> io::Result<usize>
+    ensures { IfOk result (λ n. n ≤ length buffer.new) }
+{
+    let mut done = 0;
+    while done < buffer.len() {
+        let n = file.read(&mut buffer[done..])?;
+        if n == 0 {
+            break;
+        }
+        done += n;
+    }
+    Ok(done)
+}
+
+// Why one more read fails: at the end of a file it does not.
+fn fails(file: &mut impl Read) -> Option<io::Error> {
     let mut one = [0u8; 1];
-    libc::read(fd, &mut one) < 0
+    file.read(&mut one).err()
 }

@@ -9,11 +9,12 @@ mod report;
 ghost use Rattle.std.specs.Prelude.{length};
 ghost use Rattle.flow.specs.Settling.{Sized};
 
-use crate::arguments::{Asked, number_or_line, place_of};
+use crate::arguments::{Asked, count_of, number_or_line, place_of};
 use crate::inputs::{file_at, levels_of};
 use crate::report::{say_accepted, say_answer, say_found, say_help, say_refused, say_usage};
 use flow::find;
 use reporter::{LevelAnswer, level, level_readable};
+use std::io;
 
 // One byte more than the longest book, table and summary, so that a longer file is seen to be too long.
 const BOOK: usize = 32769;
@@ -23,103 +24,132 @@ const TABLE: usize = 258;
 const SUMMARY: usize = 1057;
 
 // What the reporter answered by this summary; whether there is a level.
-fn answered(r: LevelAnswer, table: &[u8], procedure: u64, levels: &[u8], summary: &[u8]) -> bool {
+fn answered(
+    rt: HostRuntime,
+    r: LevelAnswer,
+    table: &[u8],
+    procedure: u64,
+    levels: &[u8],
+    summary: &[u8],
+) -> io::Result<bool> {
     if r.refusal != 0 {
-        say_refused(r.refusal);
-        return false;
+        say_refused(&rt, r.refusal)?;
+        return Ok(false);
     }
-    say_answer(table, procedure as usize, levels, summary, r.level);
-    true
+    say_answer(&rt, table, procedure as usize, levels, summary, r.level)?;
+    Ok(true)
 }
 
 // With the summary in the file at this place.
-fn answer_given(book: &[u8], table: &[u8], procedure: u64, levels: &[u8], place: usize) {
+fn answer_given(
+    rt: HostRuntime,
+    book: &[u8],
+    table: &[u8],
+    procedure: u64,
+    levels: &[u8],
+    place: usize,
+) -> io::Result<()> {
     let mut summary = [0u8; SUMMARY];
-    let got = file_at(place, &mut summary);
+    let got = file_at(rt, place, &mut summary)?;
     let size = got.length;
     if !got.ok {
-        return;
+        return Ok(());
     }
     let r = level(book, table, procedure, levels, &summary[..size]);
-    if answered(r, table, procedure, levels, &summary[..size]) {
-        say_accepted(size);
+    if answered(rt, r, table, procedure, levels, &summary[..size])? {
+        say_accepted(&rt, size)?;
     }
+    Ok(())
 }
 
 // With the least summary, found in so many rounds, of a book that is therefore readable.
 fn answer_least(
+    rt: HostRuntime,
     book: &[u8],
     table: &[u8],
     procedure: u64,
     levels: &[u8],
     summary: &[u8],
     rounds: usize,
-)
+) -> io::Result<()>
     requires { Sized book.now (length summary.now) }
 {
     let size = summary.len();
     let r = level_readable(book, size, table, procedure, levels, summary);
-    if answered(r, table, procedure, levels, summary) {
-        say_found(size, rounds);
+    if answered(rt, r, table, procedure, levels, summary)? {
+        say_found(&rt, size, rounds)?;
     }
+    Ok(())
 }
 
 // Where the book is refused there is no summary, and the answer is that refusal.
-fn answer_found(book: &[u8], table: &[u8], procedure: u64, levels: &[u8]) {
+fn answer_found(
+    rt: HostRuntime,
+    book: &[u8],
+    table: &[u8],
+    procedure: u64,
+    levels: &[u8],
+) -> io::Result<()> {
     let mut summary = [0u8; SUMMARY];
     let found = find(book, &mut summary);
     let size = found.size;
     let rounds = found.rounds;
     if found.refusal != 0 {
-        say_refused(found.refusal);
-        return;
+        return say_refused(&rt, found.refusal);
     }
-    answer_least(book, table, procedure, levels, &summary[..size], rounds);
+    answer_least(rt, book, table, procedure, levels, &summary[..size], rounds)
 }
 
 // The files are read, and the procedure and the levels are known.
-fn audit(a: Asked, book: &[u8], procedure: u64, levels: &[u8]) {
+fn audit(rt: HostRuntime, a: Asked, book: &[u8], procedure: u64, levels: &[u8]) -> io::Result<()> {
     let mut table = [0u8; TABLE];
-    let got = file_at(a.place(2), &mut table);
+    let got = file_at(rt, a.place(2), &mut table)?;
     let length = got.length;
     if !got.ok {
-        return;
+        return Ok(());
     }
     if a.has_summary() {
-        answer_given(book, &table[..length], procedure, levels, a.summary_place());
+        answer_given(
+            rt,
+            book,
+            &table[..length],
+            procedure,
+            levels,
+            a.summary_place(),
+        )
     } else {
-        answer_found(book, &table[..length], procedure, levels);
+        answer_found(rt, book, &table[..length], procedure, levels)
     }
 }
 
 // The book is read.
-fn with_book(a: Asked, procedure: u64, levels: &[u8]) {
+fn with_book(rt: HostRuntime, a: Asked, procedure: u64, levels: &[u8]) -> io::Result<()> {
     let mut book = [0u8; BOOK];
-    let got = file_at(a.place(1), &mut book);
+    let got = file_at(rt, a.place(1), &mut book)?;
     let length = got.length;
-    if got.ok {
-        audit(a, &book[..length], procedure, levels);
+    if !got.ok {
+        return Ok(());
     }
+    audit(rt, a, &book[..length], procedure, levels)
 }
 
-fn main() {
-    if place_of(b"--help") < os::arg_count() {
-        say_help();
-        return;
+fn main(rt: HostRuntime) -> io::Result<()> {
+    if place_of(&rt, b"--help") < count_of(&rt) {
+        return say_help(&rt);
     }
-    let a = Asked::new();
+    let a = Asked::new(&rt);
     if !a.complete() {
-        say_usage();
-        return;
+        return say_usage(&rt);
     }
-    let procedure = number_or_line(a.place(3));
+    let procedure = number_or_line(rt, a.place(3))?;
     if !procedure.known {
-        return;
+        return Ok(());
     }
     let mut levels = [0u8; 9];
-    let got = levels_of(a, &mut levels);
+    let got = levels_of(rt, a, &mut levels)?;
     let length = got.length;
-    if got.ok {
-        with_book(a, procedure.value, &levels[..length]);
+    if !got.ok {
+        return Ok(());
     }
+    with_book(rt, a, procedure.value, &levels[..length])
 }

@@ -1,16 +1,34 @@
 // Prints the listing of the book on standard input.
 #![tactic(auto)]
 
-use libc::{STDIN_FILENO, STDOUT_FILENO};
+ghost use Rattle.std.specs.Prelude.{◌≤◌, length, IfOk};
+
+use std::io;
+use std::io::Read;
 
 // One byte more than a book may have, so that a longer one is seen to be too long.
 const MOST: usize = 32769;
 
-fn main() {
+// Reads until the buffer is full or the input ends, and answers how many bytes stand at its start.
+fn read_full(input: &mut impl Read, buffer: &mut [u8]) -> io::Result<usize>
+    ensures { IfOk result (λ n. n ≤ length buffer.new) }
+{
+    let mut done = 0;
+    while done < buffer.len() {
+        let n = input.read(&mut buffer[done..])?;
+        if n == 0 {
+            break;
+        }
+        done += n;
+    }
+    Ok(done)
+}
+
+fn main(rt: HostRuntime) -> io::Result<()> {
     let mut book = [0u8; MOST];
-    let length = io::read_full(STDIN_FILENO, &mut book);
+    let length = read_full(&mut rt.stdin(), &mut book)?;
     let text = lines::list(&book[..length]);
     let bytes = text.bytes;
     let end = text.len;
-    io::write_all(STDOUT_FILENO, &bytes[..end]);
+    rt.write_all(&bytes[..end])
 }
