@@ -3,92 +3,97 @@
 
 mod text;
 
-ghost use Rattle.std.specs.Prelude.{◌<◌, length};
+ghost use Rattle.std.specs.Prelude.{◌<◌, length, IfOk};
 
-use libc::STDOUT_FILENO;
+use std::io;
+use std::io::Read;
 use text::{name_end, parse};
 
-fn main() {
-    let mut text = io::large_buffer();
-    let n = io::read_full(0, &mut text);
-    lines(&text[..n]);
+// Of the input, the first 65,536 bytes are read.
+fn main(rt: HostRuntime) -> io::Result<()> {
+    let mut text = Vec::new(rt.alloc());
+    rt.reader().take(65536).read_to_end(&mut text)?;
+    lines(&rt, &text)
 }
 
-fn lines(text: &[u8]) {
+fn lines(rt: &impl Print, text: &[u8]) -> io::Result<()> {
     let mut at = 0;
     while at < text.len() {
-        at = line(text, at);
+        at = line(rt, text, at)?;
     }
+    Ok(())
 }
 
 // The case of the line that begins at this place; answers where the next begins.
-fn line(text: &[u8], at: usize) -> usize
+fn line(rt: &impl Print, text: &[u8], at: usize) -> io::Result<usize>
     requires { at < length text.now }
-    ensures { at < result }
+    ensures { IfOk result (λ next. at < next) }
 {
     let name = name_end(text, at);
-    io::write_all(STDOUT_FILENO, &text[at..name]);
-    let mut book = io::buffer();
+    rt.write_all(&text[at..name])?;
+    let mut book = [0u8; 4096];
     let parsed = parse(text, name, &mut book);
     let count = parsed.count;
     if count <= book.len() {
-        report(&book[..count]);
+        report(rt, &book[..count])?;
     }
-    parsed.next
+    Ok(parsed.next)
 }
 
 // What the finder and the checker answer.
-fn report(book: &[u8]) {
+fn report(rt: &impl Print, book: &[u8]) -> io::Result<()> {
     let mut buffer = [170u8; 1100];
     let found = flow::find(book, &mut buffer);
     if found.refusal != 0 {
-        answer(b" refused ", found.refusal);
-        answer(b" check ", flow::check(book, b""));
-        io::write_all(STDOUT_FILENO, b"\n");
-        return;
+        answer(rt, b" refused ", found.refusal)?;
+        answer(rt, b" check ", flow::check(book, b""))?;
+        return println!(rt;);
     }
     let size = found.size;
-    number(b" size ", size as u64);
-    number(b" rounds ", found.rounds as u64);
-    io::write_all(STDOUT_FILENO, b" summary");
+    number(rt, b" size ", size as u64)?;
+    number(rt, b" rounds ", found.rounds as u64)?;
+    print!(rt; " summary")?;
     if size < 1100 {
-        sets(&buffer[..size]);
-        answer(b" beyond ", buffer[size]);
-        checks(book, &mut buffer[..size]);
+        sets(rt, &buffer[..size])?;
+        answer(rt, b" beyond ", buffer[size])?;
+        checks(rt, book, &mut buffer[..size])?;
     }
-    io::write_all(STDOUT_FILENO, b"\n");
+    println!(rt;)
 }
 
 // The checker on the summary found, on one shorter, on one with a set fewer, and on one with every bit in the first set.
-fn checks(book: &[u8], summary: &mut [u8]) {
-    answer(b" check ", flow::check(book, summary));
-    shorter(book, summary);
-    fewer(book, summary);
-    full(book, summary);
+fn checks(rt: &impl Print, book: &[u8], summary: &mut [u8]) -> io::Result<()> {
+    answer(rt, b" check ", flow::check(book, summary))?;
+    shorter(rt, book, summary)?;
+    fewer(rt, book, summary)?;
+    full(rt, book, summary)
 }
 
-fn shorter(book: &[u8], summary: &[u8]) {
+fn shorter(rt: &impl Print, book: &[u8], summary: &[u8]) -> io::Result<()> {
     if 0 < summary.len() {
         let most = summary.len() - 1;
-        answer(b" short ", flow::check(book, &summary[..most]));
+        answer(rt, b" short ", flow::check(book, &summary[..most]))?;
     }
+    Ok(())
 }
 
-fn fewer(book: &[u8], summary: &mut [u8]) {
+fn fewer(rt: &impl Print, book: &[u8], summary: &mut [u8]) -> io::Result<()> {
     let k = first_set(summary);
     if k < summary.len() {
         let kept = summary[k];
         summary[k] = 0;
-        answer(b" fewer ", flow::check(book, summary));
+        answer(rt, b" fewer ", flow::check(book, summary))?;
         summary[k] = kept;
     }
+    Ok(())
 }
 
-fn full(book: &[u8], summary: &mut [u8]) {
+fn full(rt: &impl Print, book: &[u8], summary: &mut [u8]) -> io::Result<()> {
     if 0 < summary.len() {
         summary[0] = 255;
-        answer(b" full ", flow::check(book, summary));
+        answer(rt, b" full ", flow::check(book, summary))?;
     }
+    Ok(())
 }
 
 // The place of the first set that is not empty, or the length.
@@ -103,26 +108,25 @@ fn first_set(summary: &[u8]) -> usize {
     i
 }
 
-fn sets(summary: &[u8]) {
+fn sets(rt: &impl Print, summary: &[u8]) -> io::Result<()> {
     let mut i = 0;
     while i < summary.len() {
-        io::write_all(STDOUT_FILENO, b" ");
-        two_digits(summary[i]);
+        print!(rt; " ")?;
+        two_digits(rt, summary[i])?;
         i += 1;
     }
+    Ok(())
 }
 
-fn two_digits(byte: u8) {
-    let mut text = [0u8; 16];
-    let k = io::hex(byte as u64, 2, &mut text);
-    io::write_all(STDOUT_FILENO, &text[..k]);
+fn two_digits(rt: &impl Print, byte: u8) -> io::Result<()> {
+    print!(rt; "{byte:02x}")
 }
 
-fn answer(word: &[u8], byte: u8) {
-    number(word, byte as u64);
+fn answer(rt: &impl Print, word: &[u8], byte: u8) -> io::Result<()> {
+    number(rt, word, byte as u64)
 }
 
-fn number(word: &[u8], n: u64) {
-    io::write_all(STDOUT_FILENO, word);
-    io::print_decimal(STDOUT_FILENO, n);
+fn number(rt: &impl Print, word: &[u8], n: u64) -> io::Result<()> {
+    rt.write_all(word)?;
+    print!(rt; "{n}")
 }

@@ -2,7 +2,7 @@
 ghost use Rattle.std.specs.Prelude.{◌+◌, ◌<◌, ◌≤◌, length};
 
 // How many bytes were read, and where the next line begins.
-#[derive(Drop)]
+#[derive(Clone, Copy)]
 pub struct Parsed {
     pub count: usize,
     pub next: usize,

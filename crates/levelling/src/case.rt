@@ -1,36 +1,35 @@
 // A case, part by part; each function reads one part, and answers where the next line begins.
-ghost use Rattle.std.specs.Prelude.{◌≤◌, length};
+ghost use Rattle.std.specs.Prelude.{◌≤◌, length, IfOk};
 
 use crate::text::{after, part};
-use io::print_decimal;
-use libc::STDOUT_FILENO;
+use std::io;
 
-pub fn with_book(text: &[u8], at: usize) -> usize
+pub fn with_book(rt: &impl Print, text: &[u8], at: usize) -> io::Result<usize>
     requires { at ≤ length text.now }
-    ensures { at ≤ result }
+    ensures { IfOk result (λ next. at ≤ next) }
 {
     let mut bytes = [0u8; 512];
     let found = part(text, at, &mut bytes);
     let n = found.count;
     if n <= 512 {
-        with_table(text, found.next, &bytes[..n])
+        with_table(rt, text, found.next, &bytes[..n])
     } else {
-        at
+        Ok(at)
     }
 }
 
-fn with_table(text: &[u8], at: usize, book: &[u8]) -> usize
+fn with_table(rt: &impl Print, text: &[u8], at: usize, book: &[u8]) -> io::Result<usize>
     requires { at ≤ length text.now }
-    ensures { at ≤ result }
+    ensures { IfOk result (λ next. at ≤ next) }
 {
     let mut bytes = [0u8; 320];
     let found = part(text, at, &mut bytes);
     let n = found.count;
     if n <= 320 {
-        tested(&bytes[..n]);
-        with_procedure(text, found.next, book, &bytes[..n])
+        tested(rt, &bytes[..n])?;
+        with_procedure(rt, text, found.next, book, &bytes[..n])
     } else {
-        at
+        Ok(at)
     }
 }
 
@@ -43,64 +42,80 @@ fn procedure(byte: u8) -> u64 {
     }
 }
 
-fn with_procedure(text: &[u8], at: usize, book: &[u8], table: &[u8]) -> usize
+fn with_procedure(
+    rt: &impl Print,
+    text: &[u8],
+    at: usize,
+    book: &[u8],
+    table: &[u8],
+) -> io::Result<usize>
     requires { at ≤ length text.now }
-    ensures { at ≤ result }
+    ensures { IfOk result (λ next. at ≤ next) }
 {
     let mut bytes = [0u8; 1];
     let found = part(text, at, &mut bytes);
-    with_levels(text, found.next, book, table, procedure(bytes[0]))
+    with_levels(rt, text, found.next, book, table, procedure(bytes[0]))
 }
 
-fn with_levels(text: &[u8], at: usize, book: &[u8], table: &[u8], procedure: u64) -> usize
+fn with_levels(
+    rt: &impl Print,
+    text: &[u8],
+    at: usize,
+    book: &[u8],
+    table: &[u8],
+    procedure: u64,
+) -> io::Result<usize>
     requires { at ≤ length text.now }
-    ensures { at ≤ result }
+    ensures { IfOk result (λ next. at ≤ next) }
 {
     let mut bytes = [0u8; 16];
     let found = part(text, at, &mut bytes);
     let n = found.count;
     if n <= 16 {
-        with_summary(text, found.next, book, table, procedure, &bytes[..n])
+        with_summary(rt, text, found.next, book, table, procedure, &bytes[..n])
     } else {
-        at
+        Ok(at)
     }
 }
 
 fn with_summary(
+    rt: &impl Print,
     text: &[u8],
     at: usize,
     book: &[u8],
     table: &[u8],
     procedure: u64,
     levels: &[u8],
-) -> usize
+) -> io::Result<usize>
     requires { at ≤ length text.now }
-    ensures { at ≤ result }
+    ensures { IfOk result (λ next. at ≤ next) }
 {
     let mut bytes = [0u8; 64];
     let found = part(text, at, &mut bytes);
     let n = found.count;
     if n <= 64 {
-        reported(book, table, procedure, levels, &bytes[..n]);
+        reported(rt, book, table, procedure, levels, &bytes[..n])?;
     }
-    after(text, found.next)
+    Ok(after(text, found.next))
 }
 
 // Whether the table is valid, and its bottom.
-fn tested(table: &[u8]) {
+fn tested(rt: &impl Print, table: &[u8]) -> io::Result<()> {
     if levels::valid(table) {
-        io::write_all(STDOUT_FILENO, b" valid ");
-        print_decimal(STDOUT_FILENO, levels::bottom(table) as u64);
+        print!(rt; " valid {}", levels::bottom(table))
     } else {
-        io::write_all(STDOUT_FILENO, b" not valid");
+        print!(rt; " not valid")
     }
 }
 
-fn reported(book: &[u8], table: &[u8], procedure: u64, levels: &[u8], summary: &[u8]) {
+fn reported(
+    rt: &impl Print,
+    book: &[u8],
+    table: &[u8],
+    procedure: u64,
+    levels: &[u8],
+    summary: &[u8],
+) -> io::Result<()> {
     let answer = reporter::level(book, table, procedure, levels, summary);
-    io::write_all(STDOUT_FILENO, b", ");
-    print_decimal(STDOUT_FILENO, answer.refusal as u64);
-    io::write_all(STDOUT_FILENO, b" ");
-    print_decimal(STDOUT_FILENO, answer.level as u64);
-    io::write_all(STDOUT_FILENO, b"\n");
+    println!(rt; ", {} {}", answer.refusal, answer.level)
 }

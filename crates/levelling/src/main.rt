@@ -6,31 +6,34 @@
 mod case;
 mod text;
 
-ghost use Rattle.std.specs.Prelude.{◌<◌, length};
+ghost use Rattle.std.specs.Prelude.{◌<◌, length, IfOk};
 
 use case::with_book;
-use libc::STDOUT_FILENO;
+use std::io;
+use std::io::Read;
 use text::name_end;
 
-fn main() {
-    let mut text = io::large_buffer();
-    let n = io::read_full(0, &mut text);
-    lines(&text[..n]);
+// Of the input, the first 65,536 bytes are read.
+fn main(rt: HostRuntime) -> io::Result<()> {
+    let mut text = Vec::new(rt.alloc());
+    rt.reader().take(65536).read_to_end(&mut text)?;
+    lines(&rt, &text)
 }
 
-fn lines(text: &[u8]) {
+fn lines(rt: &impl Print, text: &[u8]) -> io::Result<()> {
     let mut at = 0;
     while at < text.len() {
-        at = line(text, at);
+        at = line(rt, text, at)?;
     }
+    Ok(())
 }
 
 // The case of the line that begins at this place; answers where the next begins.
-fn line(text: &[u8], at: usize) -> usize
+fn line(rt: &impl Print, text: &[u8], at: usize) -> io::Result<usize>
     requires { at < length text.now }
-    ensures { at < result }
+    ensures { IfOk result (λ next. at < next) }
 {
     let name = name_end(text, at);
-    io::write_all(STDOUT_FILENO, &text[at..name]);
-    with_book(text, name)
+    rt.write_all(&text[at..name])?;
+    with_book(rt, text, name)
 }

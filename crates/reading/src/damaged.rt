@@ -1,158 +1,199 @@
 // Books with a body that breaks a rule.
 use crate::show::show;
+use std::io;
 
 // Refusal 3, reason 1: the body ended early.
-fn ended() {
-    show(b"empty-body", b"\x01\x07\x00\x00\x00\x01\x00");
+fn ended(rt: &impl Print) -> io::Result<()> {
+    show(rt, b"empty-body", b"\x01\x07\x00\x00\x00\x01\x00")?;
     show(
+        rt,
         b"empty-second-body",
         b"\x02\x0d\x00\x03\x00\x01\x00\x10\x00\x00\x00\x01\x00\x04\x11\x00",
-    );
-    show(b"return-alone", b"\x01\x07\x00\x01\x00\x01\x00\x04");
+    )?;
+    show(rt, b"return-alone", b"\x01\x07\x00\x01\x00\x01\x00\x04")?;
     show(
+        rt,
         b"constant-cut",
         b"\x01\x07\x00\x05\x00\x00\x00\x04\x10\x01\x02\x03",
-    );
+    )
 }
 
 // The same in an expression.
-fn ended_expressions() {
-    show(b"variable-cut", b"\x01\x07\x00\x02\x00\x01\x00\x04\x11");
-    show(b"operation-cut", b"\x01\x07\x00\x02\x00\x01\x00\x04\x12");
+fn ended_expressions(rt: &impl Print) -> io::Result<()> {
+    show(rt, b"variable-cut", b"\x01\x07\x00\x02\x00\x01\x00\x04\x11")?;
     show(
+        rt,
+        b"operation-cut",
+        b"\x01\x07\x00\x02\x00\x01\x00\x04\x12",
+    )?;
+    show(
+        rt,
         b"operand-missing",
         b"\x01\x07\x00\x05\x00\x01\x00\x04\x12\x00\x11\x00",
-    );
+    )?;
     show(
+        rt,
         b"argument-missing",
         b"\x01\x07\x00\x05\x00\x02\x00\x04\x13\x00\x11\x00",
-    );
+    )
 }
 
 // The same in a command.
-fn ended_commands() {
-    show(b"set-cut", b"\x01\x07\x00\x01\x00\x01\x00\x01");
+fn ended_commands(rt: &impl Print) -> io::Result<()> {
+    show(rt, b"set-cut", b"\x01\x07\x00\x01\x00\x01\x00\x01")?;
     show(
+        rt,
         b"no-closing",
         b"\x01\x07\x00\x04\x00\x01\x00\x01\x00\x11\x00",
-    );
+    )?;
     show(
+        rt,
         b"run-not-ended",
         b"\x01\x07\x00\x07\x00\x01\x00\x03\x11\x00\x01\x00\x11\x00",
-    );
+    )
 }
 
-fn ended_branches() {
+fn ended_branches(rt: &impl Print) -> io::Result<()> {
     show(
+        rt,
         b"second-branch-missing",
         b"\x01\x07\x00\x04\x00\x01\x00\x02\x11\x00\x00",
-    );
+    )?;
     show(
+        rt,
         b"second-closing-missing",
         b"\x01\x07\x00\x06\x00\x01\x00\x05\x11\x00\x04\x11\x00",
-    );
+    )
 }
 
 // Refusal 3, reason 3: an unknown code.
-fn unknown() {
-    show(b"code-06", b"\x01\x07\x00\x03\x00\x01\x00\x06\x11\x00");
+fn unknown(rt: &impl Print) -> io::Result<()> {
+    show(rt, b"code-06", b"\x01\x07\x00\x03\x00\x01\x00\x06\x11\x00")?;
     show(
+        rt,
         b"00-in-a-closing-sequence",
         b"\x01\x07\x00\x04\x00\x01\x00\x00\x04\x11\x00",
-    );
+    )?;
     show(
+        rt,
         b"return-in-a-run",
         b"\x01\x07\x00\x0a\x00\x01\x00\x03\x11\x00\x04\x11\x00\x00\x04\x11\x00",
-    );
+    )?;
     show(
+        rt,
         b"command-for-expression",
         b"\x01\x07\x00\x05\x00\x01\x00\x04\x01\x00\x11\x00",
-    );
+    )
 }
 
-fn unknown_expressions() {
+fn unknown_expressions(rt: &impl Print) -> io::Result<()> {
     show(
+        rt,
         b"expression-for-command",
         b"\x01\x07\x00\x05\x00\x01\x00\x11\x00\x04\x11\x00",
-    );
-    show(b"code-14", b"\x01\x07\x00\x04\x00\x01\x00\x04\x14\x11\x00");
+    )?;
     show(
+        rt,
+        b"code-14",
+        b"\x01\x07\x00\x04\x00\x01\x00\x04\x14\x11\x00",
+    )?;
+    show(
+        rt,
         b"code-ff-as-operand",
         b"\x01\x07\x00\x06\x00\x01\x00\x04\x12\x00\x11\x00\xff",
-    );
+    )
 }
 
 // Refusal 3, reason 4: no such variable.
-fn variables() {
+fn variables(rt: &impl Print) -> io::Result<()> {
     show(
+        rt,
         b"variable-at-count",
         b"\x01\x07\x00\x03\x00\x01\x01\x04\x11\x02",
-    );
-    show(b"variable-255", b"\x01\x07\x00\x03\x00\x01\x00\x04\x11\xff");
-    show(b"no-variables", b"\x01\x07\x00\x03\x00\x00\x00\x04\x11\x00");
+    )?;
     show(
+        rt,
+        b"variable-255",
+        b"\x01\x07\x00\x03\x00\x01\x00\x04\x11\xff",
+    )?;
+    show(
+        rt,
+        b"no-variables",
+        b"\x01\x07\x00\x03\x00\x00\x00\x04\x11\x00",
+    )?;
+    show(
+        rt,
         b"set-at-count",
         b"\x01\x07\x00\x07\x00\x01\x01\x01\x02\x11\x00\x04\x11\x00",
-    );
+    )
 }
 
 // Refusal 3, reasons 5 and 6: no such operation, no such procedure.
-fn operations() {
+fn operations(rt: &impl Print) -> io::Result<()> {
     show(
+        rt,
         b"operation-8",
         b"\x01\x07\x00\x07\x00\x01\x00\x04\x12\x08\x11\x00\x11\x00",
-    );
+    )?;
     show(
+        rt,
         b"operation-255",
         b"\x01\x07\x00\x07\x00\x01\x00\x04\x12\xff\x11\x00\x11\x00",
-    );
+    )?;
     show(
+        rt,
         b"procedure-at-count",
         b"\x01\x07\x00\x05\x00\x01\x00\x04\x13\x01\x11\x00",
-    );
+    )?;
     show(
+        rt,
         b"procedure-255",
         b"\x01\x07\x00\x05\x00\x01\x00\x04\x13\xff\x11\x00",
-    );
+    )
 }
 
 // Refusal 3, reason 7: bytes left over.
-fn left_over() {
+fn left_over(rt: &impl Print) -> io::Result<()> {
     show(
+        rt,
         b"left-over-00",
         b"\x01\x07\x00\x04\x00\x01\x00\x04\x11\x00\x00",
-    );
+    )?;
     show(
+        rt,
         b"left-over-return",
         b"\x01\x07\x00\x06\x00\x01\x00\x04\x11\x00\x04\x11\x00",
-    );
+    )?;
     show(
+        rt,
         b"left-over-after-pick",
         b"\x01\x07\x00\x0a\x00\x01\x00\x05\x11\x00\x04\x11\x00\x04\x11\x00\x00",
-    );
+    )
 }
 
 // A place counts from the start of the book, and the first fault is told.
-fn places() {
+fn places(rt: &impl Print) -> io::Result<()> {
     show(
+        rt,
         b"fault-in-second-body",
         b"\x02\x0d\x00\x03\x00\x01\x00\x10\x00\x07\x00\x00\x01\x04\x11\x00\x01\x00\x11\x01\x04\x11\x00",
-    );
+    )?;
     show(
+        rt,
         b"first-of-two-faults",
         b"\x02\x0d\x00\x03\x00\x01\x00\x10\x00\x04\x00\x01\x00\x04\x12\x09\x04\x11\x00\x00",
-    );
+    )
 }
 
-pub fn all() {
-    ended();
-    ended_expressions();
-    ended_commands();
-    ended_branches();
-    unknown();
-    unknown_expressions();
-    variables();
-    operations();
-    left_over();
-    places();
+pub fn all(rt: &impl Print) -> io::Result<()> {
+    ended(rt)?;
+    ended_expressions(rt)?;
+    ended_commands(rt)?;
+    ended_branches(rt)?;
+    unknown(rt)?;
+    unknown_expressions(rt)?;
+    variables(rt)?;
+    operations(rt)?;
+    left_over(rt)?;
+    places(rt)
 }

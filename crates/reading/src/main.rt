@@ -7,9 +7,11 @@ mod damaged;
 mod show;
 mod whole;
 
-fn main() {
-    whole::all();
-    contents::all();
-    damaged::all();
-    build::all();
+use std::io;
+
+fn main(rt: HostRuntime) -> io::Result<()> {
+    whole::all(&rt)?;
+    contents::all(&rt)?;
+    damaged::all(&rt)?;
+    build::all(&rt)
 }

@@ -3,8 +3,7 @@
 // were, 2 anything else.
 #![tactic(auto)]
 
-use io::print_decimal;
-use libc::STDOUT_FILENO;
+use std::io;
 
 // Each cell is 7 before the run.
 fn cells(work: &[u32]) -> u64 {
@@ -34,513 +33,569 @@ fn cells(work: &[u32]) -> u64 {
     }
 }
 
-fn shown(name: &[u8], a: runner::RunAnswer, after: u64) {
-    io::write_all(STDOUT_FILENO, name);
-    io::write_all(STDOUT_FILENO, b": ");
-    print_decimal(STDOUT_FILENO, a.refusal as u64);
-    io::write_all(STDOUT_FILENO, b" ");
-    print_decimal(STDOUT_FILENO, a.ending as u64);
-    io::write_all(STDOUT_FILENO, b" ");
-    print_decimal(STDOUT_FILENO, a.value as u64);
-    io::write_all(STDOUT_FILENO, b" ");
-    print_decimal(STDOUT_FILENO, a.steps);
-    io::write_all(STDOUT_FILENO, b" ");
-    print_decimal(STDOUT_FILENO, after);
-    io::write_all(STDOUT_FILENO, b"\n");
+fn shown(rt: &impl Print, name: &[u8], a: runner::RunAnswer, after: u64) -> io::Result<()> {
+    rt.write_all(name)?;
+    println!(rt;
+        ": {} {} {} {} {after}",
+        a.refusal, a.ending, a.value, a.steps
+    )
 }
 
 fn shown_in(
+    rt: &impl Print,
     name: &[u8],
     book: &[u8],
     procedure: usize,
     inputs: &[u32],
     budget: u64,
     work: &mut [u32],
-) {
+) -> io::Result<()> {
     let a = runner::run(book, procedure, inputs, budget, work);
-    shown(name, a, cells(work));
+    shown(rt, name, a, cells(work))
 }
 
-fn show(name: &[u8], book: &[u8], procedure: usize, inputs: &[u32], budget: u64) {
+fn show(
+    rt: &impl Print,
+    name: &[u8],
+    book: &[u8],
+    procedure: usize,
+    inputs: &[u32],
+    budget: u64,
+) -> io::Result<()> {
     let mut work = [7u32; 1030];
-    shown_in(name, book, procedure, inputs, budget, &mut work);
+    shown_in(rt, name, book, procedure, inputs, budget, &mut work)
 }
 
 // With just the cells that are asked for, and with one less.
-fn show_1024(name: &[u8], book: &[u8], procedure: usize, inputs: &[u32], budget: u64) {
+fn show_1024(
+    rt: &impl Print,
+    name: &[u8],
+    book: &[u8],
+    procedure: usize,
+    inputs: &[u32],
+    budget: u64,
+) -> io::Result<()> {
     let mut work = [7u32; 1024];
-    shown_in(name, book, procedure, inputs, budget, &mut work);
+    shown_in(rt, name, book, procedure, inputs, budget, &mut work)
 }
 
-fn show_1023(name: &[u8], book: &[u8], procedure: usize, inputs: &[u32], budget: u64) {
+fn show_1023(
+    rt: &impl Print,
+    name: &[u8],
+    book: &[u8],
+    procedure: usize,
+    inputs: &[u32],
+    budget: u64,
+) -> io::Result<()> {
     let mut work = [7u32; 1023];
-    shown_in(name, book, procedure, inputs, budget, &mut work);
+    shown_in(rt, name, book, procedure, inputs, budget, &mut work)
 }
 
 // A: returns its parameter.
-fn book_a() {
+fn book_a(rt: &impl Print) -> io::Result<()> {
     let book = b"\x01\x07\x00\x03\x00\x01\x00\x04\x11\x00";
-    show(b"A 9", book, 0, &[9u32], 1000000);
-    show(b"A 9, exactly enough", book, 0, &[9u32], 2);
-    show(b"A 9, one short", book, 0, &[9u32], 1);
-    show(b"A 9, budget 0", book, 0, &[9u32], 0);
+    show(rt, b"A 9", book, 0, &[9u32], 1000000)?;
+    show(rt, b"A 9, exactly enough", book, 0, &[9u32], 2)?;
+    show(rt, b"A 9, one short", book, 0, &[9u32], 1)?;
+    show(rt, b"A 9, budget 0", book, 0, &[9u32], 0)
 }
 
 // B: calls itself for ever.
-fn book_b() {
+fn book_b(rt: &impl Print) -> io::Result<()> {
     let book = b"\x01\x07\x00\x05\x00\x01\x00\x04\x13\x00\x11\x00";
-    show(b"B 1, budget 192", book, 0, &[1u32], 192);
-    show(b"B 1, budget 191", book, 0, &[1u32], 191);
-    show(b"B 1, budget 193", book, 0, &[1u32], 193);
-    show(b"B 1, the greatest budget", book, 0, &[1u32], 1000000);
-    show(b"B 1, budget 0", book, 0, &[1u32], 0);
+    show(rt, b"B 1, budget 192", book, 0, &[1u32], 192)?;
+    show(rt, b"B 1, budget 191", book, 0, &[1u32], 191)?;
+    show(rt, b"B 1, budget 193", book, 0, &[1u32], 193)?;
+    show(rt, b"B 1, the greatest budget", book, 0, &[1u32], 1000000)?;
+    show(rt, b"B 1, budget 0", book, 0, &[1u32], 0)
 }
 
 // C: a local set in a branch.
-fn book_c() {
+fn book_c(rt: &impl Print) -> io::Result<()> {
     let book =
         b"\x01\x07\x00\x0f\x00\x01\x01\x02\x11\x00\x01\x01\x10\x01\x00\x00\x00\x00\x00\x04\x11\x01";
-    show(b"C 0", book, 0, &[0u32], 1000000);
-    show(b"C 5", book, 0, &[5u32], 1000000);
-    show(b"C 0, exactly enough", book, 0, &[0u32], 4);
-    show(b"C 0, one short", book, 0, &[0u32], 3);
-    show(b"C 5, exactly enough", book, 0, &[5u32], 6);
-    show(b"C 5, one short", book, 0, &[5u32], 5);
+    show(rt, b"C 0", book, 0, &[0u32], 1000000)?;
+    show(rt, b"C 5", book, 0, &[5u32], 1000000)?;
+    show(rt, b"C 0, exactly enough", book, 0, &[0u32], 4)?;
+    show(rt, b"C 0, one short", book, 0, &[0u32], 3)?;
+    show(rt, b"C 5, exactly enough", book, 0, &[5u32], 6)?;
+    show(rt, b"C 5, one short", book, 0, &[5u32], 5)
 }
 
 // D: a flow through a second turn.
-fn book_d() {
+fn book_d(rt: &impl Print) -> io::Result<()> {
     let book =
         b"\x01\x07\x00\x1a\x00\x03\x01\x03\x11\x00\x01\x03\x11\x01\x01\x01\x11\x02\x01\x00\x12\x01\x11\x00\x10\x01\x00\x00\x00\x00\x04\x11\x03";
-    show(b"D 2 5 9", book, 0, &[2u32, 5, 9], 1000000);
-    show(b"D 1 5 9", book, 0, &[1u32, 5, 9], 1000000);
-    show(b"D 0 5 9", book, 0, &[0u32, 5, 9], 1000000);
-    show(b"D 2 5 9, exactly enough", book, 0, &[2u32, 5, 9], 24);
-    show(b"D 2 5 9, one short", book, 0, &[2u32, 5, 9], 23);
-    show(b"D 1 5 9, one short", book, 0, &[1u32, 5, 9], 13);
-    show(b"D 0 5 9, one short", book, 0, &[0u32, 5, 9], 3);
+    show(rt, b"D 2 5 9", book, 0, &[2u32, 5, 9], 1000000)?;
+    show(rt, b"D 1 5 9", book, 0, &[1u32, 5, 9], 1000000)?;
+    show(rt, b"D 0 5 9", book, 0, &[0u32, 5, 9], 1000000)?;
+    show(rt, b"D 2 5 9, exactly enough", book, 0, &[2u32, 5, 9], 24)?;
+    show(rt, b"D 2 5 9, one short", book, 0, &[2u32, 5, 9], 23)?;
+    show(rt, b"D 1 5 9, one short", book, 0, &[1u32, 5, 9], 13)?;
+    show(rt, b"D 0 5 9, one short", book, 0, &[0u32, 5, 9], 3)
 }
 
 // E: a difference that is always 0.
-fn book_e() {
+fn book_e(rt: &impl Print) -> io::Result<()> {
     let book = b"\x01\x07\x00\x07\x00\x01\x00\x04\x12\x01\x11\x00\x11\x00";
-    show(b"E 7", book, 0, &[7u32], 1000000);
-    show(b"E 7, exactly enough", book, 0, &[7u32], 4);
-    show(b"E 7, one short", book, 0, &[7u32], 3);
+    show(rt, b"E 7", book, 0, &[7u32], 1000000)?;
+    show(rt, b"E 7, exactly enough", book, 0, &[7u32], 4)?;
+    show(rt, b"E 7, one short", book, 0, &[7u32], 3)
 }
 
 // F: a parameter set to 0.
-fn book_f() {
+fn book_f(rt: &impl Print) -> io::Result<()> {
     let book = b"\x01\x07\x00\x0a\x00\x01\x00\x01\x00\x10\x00\x00\x00\x00\x04\x11\x00";
-    show(b"F 7", book, 0, &[7u32], 1000000);
-    show(b"F 7, exactly enough", book, 0, &[7u32], 4);
-    show(b"F 7, one short", book, 0, &[7u32], 3);
+    show(rt, b"F 7", book, 0, &[7u32], 1000000)?;
+    show(rt, b"F 7, exactly enough", book, 0, &[7u32], 4)?;
+    show(rt, b"F 7, one short", book, 0, &[7u32], 3)
 }
 
 // G: a return over 22 nested operations is read, over 23 it is not; a body of length 0.
-fn book_g() {
+fn book_g(rt: &impl Print) -> io::Result<()> {
     let book =
         b"\x01\x07\x00\xa0\x00\x00\x00\x04\x12\x00\x10\x01\x00\x00\x00\x12\x00\x10\x01\x00\x00\x00\x12\x00\x10\x01\x00\x00\x00\x12\x00\x10\x01\x00\x00\x00\x12\x00\x10\x01\x00\x00\x00\x12\x00\x10\x01\x00\x00\x00\x12\x00\x10\x01\x00\x00\x00\x12\x00\x10\x01\x00\x00\x00\x12\x00\x10\x01\x00\x00\x00\x12\x00\x10\x01\x00\x00\x00\x12\x00\x10\x01\x00\x00\x00\x12\x00\x10\x01\x00\x00\x00\x12\x00\x10\x01\x00\x00\x00\x12\x00\x10\x01\x00\x00\x00\x12\x00\x10\x01\x00\x00\x00\x12\x00\x10\x01\x00\x00\x00\x12\x00\x10\x01\x00\x00\x00\x12\x00\x10\x01\x00\x00\x00\x12\x00\x10\x01\x00\x00\x00\x12\x00\x10\x01\x00\x00\x00\x12\x00\x10\x01\x00\x00\x00\x12\x00\x10\x01\x00\x00\x00\x10\x05\x00\x00\x00";
-    show(b"G 22 operations", book, 0, &[0u32; 0], 1000000);
-    show(b"G 22 operations, budget 0", book, 0, &[0u32; 0], 0);
+    show(rt, b"G 22 operations", book, 0, &[0u32; 0], 1000000)?;
+    show(rt, b"G 22 operations, budget 0", book, 0, &[0u32; 0], 0)
 }
 
-fn book_g_23() {
+fn book_g_23(rt: &impl Print) -> io::Result<()> {
     let book =
         b"\x01\x07\x00\xa7\x00\x00\x00\x04\x12\x00\x10\x01\x00\x00\x00\x12\x00\x10\x01\x00\x00\x00\x12\x00\x10\x01\x00\x00\x00\x12\x00\x10\x01\x00\x00\x00\x12\x00\x10\x01\x00\x00\x00\x12\x00\x10\x01\x00\x00\x00\x12\x00\x10\x01\x00\x00\x00\x12\x00\x10\x01\x00\x00\x00\x12\x00\x10\x01\x00\x00\x00\x12\x00\x10\x01\x00\x00\x00\x12\x00\x10\x01\x00\x00\x00\x12\x00\x10\x01\x00\x00\x00\x12\x00\x10\x01\x00\x00\x00\x12\x00\x10\x01\x00\x00\x00\x12\x00\x10\x01\x00\x00\x00\x12\x00\x10\x01\x00\x00\x00\x12\x00\x10\x01\x00\x00\x00\x12\x00\x10\x01\x00\x00\x00\x12\x00\x10\x01\x00\x00\x00\x12\x00\x10\x01\x00\x00\x00\x12\x00\x10\x01\x00\x00\x00\x12\x00\x10\x01\x00\x00\x00\x12\x00\x10\x01\x00\x00\x00\x10\x05\x00\x00\x00";
-    show(b"G 23 operations", book, 0, &[0u32; 0], 1000000);
+    show(rt, b"G 23 operations", book, 0, &[0u32; 0], 1000000)
 }
 
-fn book_g_empty() {
+fn book_g_empty(rt: &impl Print) -> io::Result<()> {
     let book = b"\x01\x07\x00\x00\x00\x00\x00";
-    show(b"G an empty body", book, 0, &[0u32; 0], 1000000);
+    show(rt, b"G an empty body", book, 0, &[0u32; 0], 1000000)
 }
 
 // M: a loop that takes 3 away each turn, and a recursion.
-fn book_m() {
+fn book_m(rt: &impl Print) -> io::Result<()> {
     let book =
         b"\x02\x0d\x00\x23\x00\x02\x00\x30\x00\x19\x00\x01\x00\x03\x11\x00\x01\x01\x12\x00\x11\x00\x10\x01\x00\x00\x00\x01\x00\x12\x01\x11\x01\x10\x04\x00\x00\x00\x00\x04\x12\x00\x13\x01\x11\x00\x11\x01\x05\x11\x00\x04\x12\x02\x11\x00\x13\x01\x12\x01\x11\x00\x10\x01\x00\x00\x00\x04\x10\x00\x00\x00\x00";
-    show(b"M procedure 1 on 3", book, 1, &[3u32], 1000000);
-    show(b"M procedure 1 on 3, exactly enough", book, 1, &[3u32], 31);
-    show(b"M procedure 1 on 3, one short", book, 1, &[3u32], 30);
-    show(b"M procedure 1 on 0", book, 1, &[0u32], 1000000);
-    show(b"M procedure 1 on 63", book, 1, &[63u32], 1000000);
-    show(b"M procedure 1 on 64", book, 1, &[64u32], 1000000);
-    show(b"M procedure 0 on 0 8", book, 0, &[0u32, 8], 1000000);
-    show(b"M procedure 0 on 9 5", book, 0, &[9u32, 5], 1000000);
-    show(b"M procedure 0 on 1 4", book, 0, &[1u32, 4], 1000000);
-    show(b"M procedure 0 on 1 4, budget 40", book, 0, &[1u32, 4], 40);
+    show(rt, b"M procedure 1 on 3", book, 1, &[3u32], 1000000)?;
+    show(
+        rt,
+        b"M procedure 1 on 3, exactly enough",
+        book,
+        1,
+        &[3u32],
+        31,
+    )?;
+    show(rt, b"M procedure 1 on 3, one short", book, 1, &[3u32], 30)?;
+    show(rt, b"M procedure 1 on 0", book, 1, &[0u32], 1000000)?;
+    show(rt, b"M procedure 1 on 63", book, 1, &[63u32], 1000000)?;
+    show(rt, b"M procedure 1 on 64", book, 1, &[64u32], 1000000)?;
+    show(rt, b"M procedure 0 on 0 8", book, 0, &[0u32, 8], 1000000)?;
+    show(rt, b"M procedure 0 on 9 5", book, 0, &[9u32, 5], 1000000)?;
+    show(rt, b"M procedure 0 on 1 4", book, 0, &[1u32, 4], 1000000)?;
+    show(
+        rt,
+        b"M procedure 0 on 1 4, budget 40",
+        book,
+        0,
+        &[1u32, 4],
+        40,
+    )
 }
 
 // The operations at their edges.
-fn operation_sum() {
+fn operation_sum(rt: &impl Print) -> io::Result<()> {
     let book = b"\x01\x07\x00\x07\x00\x02\x00\x04\x12\x00\x11\x00\x11\x01";
     show(
+        rt,
         b"sum of 4294967295 and 1",
         book,
         0,
         &[4294967295u32, 1],
         1000000,
-    );
+    )?;
     show(
+        rt,
         b"sum of 2147483648 and 2147483648",
         book,
         0,
         &[2147483648u32, 2147483648],
         1000000,
-    );
-    show(b"sum of 0 and 0", book, 0, &[0u32, 0], 1000000);
+    )?;
+    show(rt, b"sum of 0 and 0", book, 0, &[0u32, 0], 1000000)
 }
 
-fn operation_difference() {
+fn operation_difference(rt: &impl Print) -> io::Result<()> {
     let book = b"\x01\x07\x00\x07\x00\x02\x00\x04\x12\x01\x11\x00\x11\x01";
-    show(b"difference of 0 and 1", book, 0, &[0u32, 1], 1000000);
+    show(rt, b"difference of 0 and 1", book, 0, &[0u32, 1], 1000000)?;
     show(
+        rt,
         b"difference of 1 and 4294967295",
         book,
         0,
         &[1u32, 4294967295],
         1000000,
-    );
-    show(b"difference of 5 and 5", book, 0, &[5u32, 5], 1000000);
+    )?;
+    show(rt, b"difference of 5 and 5", book, 0, &[5u32, 5], 1000000)
 }
 
-fn operation_product() {
+fn operation_product(rt: &impl Print) -> io::Result<()> {
     let book = b"\x01\x07\x00\x07\x00\x02\x00\x04\x12\x02\x11\x00\x11\x01";
     show(
+        rt,
         b"product of 65536 and 65536",
         book,
         0,
         &[65536u32, 65536],
         1000000,
-    );
+    )?;
     show(
+        rt,
         b"product of 4294967295 and 4294967295",
         book,
         0,
         &[4294967295u32, 4294967295],
         1000000,
-    );
+    )?;
     show(
+        rt,
         b"product of 3 and 1431655765",
         book,
         0,
         &[3u32, 1431655765],
         1000000,
-    );
+    )
 }
 
-fn operation_quotient() {
+fn operation_quotient(rt: &impl Print) -> io::Result<()> {
     let book = b"\x01\x07\x00\x07\x00\x02\x00\x04\x12\x03\x11\x00\x11\x01";
-    show(b"quotient of 7 and 0", book, 0, &[7u32, 0], 1000000);
+    show(rt, b"quotient of 7 and 0", book, 0, &[7u32, 0], 1000000)?;
     show(
+        rt,
         b"quotient of 4294967295 and 1",
         book,
         0,
         &[4294967295u32, 1],
         1000000,
-    );
-    show(b"quotient of 0 and 5", book, 0, &[0u32, 5], 1000000);
-    show(b"quotient of 6 and 7", book, 0, &[6u32, 7], 1000000);
+    )?;
+    show(rt, b"quotient of 0 and 5", book, 0, &[0u32, 5], 1000000)?;
+    show(rt, b"quotient of 6 and 7", book, 0, &[6u32, 7], 1000000)
 }
 
-fn operation_equal() {
+fn operation_equal(rt: &impl Print) -> io::Result<()> {
     let book = b"\x01\x07\x00\x07\x00\x02\x00\x04\x12\x04\x11\x00\x11\x01";
-    show(b"equal of 0 and 0", book, 0, &[0u32, 0], 1000000);
+    show(rt, b"equal of 0 and 0", book, 0, &[0u32, 0], 1000000)?;
     show(
+        rt,
         b"equal of 0 and 4294967295",
         book,
         0,
         &[0u32, 4294967295],
         1000000,
-    );
+    )
 }
 
-fn operation_less() {
+fn operation_less(rt: &impl Print) -> io::Result<()> {
     let book = b"\x01\x07\x00\x07\x00\x02\x00\x04\x12\x05\x11\x00\x11\x01";
     show(
+        rt,
         b"less of 2147483647 and 2147483648",
         book,
         0,
         &[2147483647u32, 2147483648],
         1000000,
-    );
+    )?;
     show(
+        rt,
         b"less of 4294967295 and 0",
         book,
         0,
         &[4294967295u32, 0],
         1000000,
-    );
-    show(b"less of 3 and 3", book, 0, &[3u32, 3], 1000000);
+    )?;
+    show(rt, b"less of 3 and 3", book, 0, &[3u32, 3], 1000000)
 }
 
-fn operation_smaller() {
+fn operation_smaller(rt: &impl Print) -> io::Result<()> {
     let book = b"\x01\x07\x00\x07\x00\x02\x00\x04\x12\x06\x11\x00\x11\x01";
     show(
+        rt,
         b"smaller of 2147483648 and 1",
         book,
         0,
         &[2147483648u32, 1],
         1000000,
-    );
+    )?;
     show(
+        rt,
         b"smaller of 0 and 4294967295",
         book,
         0,
         &[0u32, 4294967295],
         1000000,
-    );
+    )
 }
 
-fn operation_larger() {
+fn operation_larger(rt: &impl Print) -> io::Result<()> {
     let book = b"\x01\x07\x00\x07\x00\x02\x00\x04\x12\x07\x11\x00\x11\x01";
     show(
+        rt,
         b"larger of 2147483648 and 1",
         book,
         0,
         &[2147483648u32, 1],
         1000000,
-    );
+    )?;
     show(
+        rt,
         b"larger of 0 and 4294967295",
         book,
         0,
         &[0u32, 4294967295],
         1000000,
-    );
+    )
 }
 
 // Mutual recursion: is the number even? Procedure 0 says, by procedure 1.
-fn mutual() {
+fn mutual(rt: &impl Print) -> io::Result<()> {
     let book =
         b"\x02\x0d\x00\x15\x00\x01\x00\x22\x00\x15\x00\x01\x00\x05\x11\x00\x04\x13\x01\x12\x01\x11\x00\x10\x01\x00\x00\x00\x04\x10\x01\x00\x00\x00\x05\x11\x00\x04\x13\x00\x12\x01\x11\x00\x10\x01\x00\x00\x00\x04\x10\x00\x00\x00\x00";
-    show(b"even 10", book, 0, &[10u32], 1000000);
-    show(b"even 7", book, 0, &[7u32], 1000000);
-    show(b"odd 7", book, 1, &[7u32], 1000000);
-    show(b"even 63, depth 64", book, 0, &[63u32], 1000000);
-    show(b"even 64, depth 65", book, 0, &[64u32], 1000000);
+    show(rt, b"even 10", book, 0, &[10u32], 1000000)?;
+    show(rt, b"even 7", book, 0, &[7u32], 1000000)?;
+    show(rt, b"odd 7", book, 1, &[7u32], 1000000)?;
+    show(rt, b"even 63, depth 64", book, 0, &[63u32], 1000000)?;
+    show(rt, b"even 64, depth 65", book, 0, &[64u32], 1000000)
 }
 
 // A loop in a called procedure, twice, with calls in the condition and in the arguments: procedure 1 counts down from its parameter and adds up.
-fn called_loop() {
+fn called_loop(rt: &impl Print) -> io::Result<()> {
     let book =
         b"\x02\x0d\x00\x25\x00\x01\x01\x32\x00\x1a\x00\x01\x01\x03\x13\x01\x11\x00\x01\x01\x12\x00\x11\x01\x13\x01\x12\x01\x11\x00\x10\x01\x00\x00\x00\x01\x00\x12\x01\x11\x00\x10\x01\x00\x00\x00\x00\x04\x11\x01\x03\x11\x00\x01\x01\x12\x00\x11\x01\x11\x00\x01\x00\x12\x01\x11\x00\x10\x01\x00\x00\x00\x00\x04\x11\x01";
-    show(b"sums of sums of 5", book, 0, &[5u32], 1000000);
-    show(b"sum of 9", book, 1, &[9u32], 1000000);
-    show(b"sums of sums of 0", book, 0, &[0u32], 1000000);
-    show(b"sums of sums of 5, budget 100", book, 0, &[5u32], 100);
+    show(rt, b"sums of sums of 5", book, 0, &[5u32], 1000000)?;
+    show(rt, b"sum of 9", book, 1, &[9u32], 1000000)?;
+    show(rt, b"sums of sums of 0", book, 0, &[0u32], 1000000)?;
+    show(rt, b"sums of sums of 5, budget 100", book, 0, &[5u32], 100)
 }
 
 // Eight parameters and eight locals: each call has its locals 0 again, and the caller keeps its own.
-fn eight() {
+fn eight(rt: &impl Print) -> io::Result<()> {
     let book =
         b"\x02\x0d\x00\x5b\x00\x00\x01\x68\x00\x5f\x00\x08\x08\x01\x00\x13\x01\x10\x01\x00\x00\x00\x10\x02\x00\x00\x00\x10\x03\x00\x00\x00\x10\x04\x00\x00\x00\x10\x05\x00\x00\x00\x10\x06\x00\x00\x00\x10\x07\x00\x00\x00\x10\x08\x00\x00\x00\x04\x12\x00\x11\x00\x13\x01\x10\x00\x00\x00\x00\x10\x0a\x00\x00\x00\x10\x14\x00\x00\x00\x10\x1e\x00\x00\x00\x10\x28\x00\x00\x00\x10\x32\x00\x00\x00\x10\x3c\x00\x00\x00\x10\x46\x00\x00\x00\x01\x08\x12\x00\x11\x08\x11\x00\x01\x09\x12\x00\x11\x09\x11\x01\x01\x0a\x12\x00\x11\x0a\x11\x02\x01\x0b\x12\x00\x11\x0b\x11\x03\x01\x0c\x12\x00\x11\x0c\x11\x04\x01\x0d\x12\x00\x11\x0d\x11\x05\x01\x0e\x12\x00\x11\x0e\x11\x06\x01\x0f\x12\x00\x11\x0f\x11\x07\x04\x12\x00\x12\x00\x12\x00\x11\x08\x11\x09\x12\x00\x11\x0a\x11\x0b\x12\x00\x12\x00\x11\x0c\x11\x0d\x12\x00\x11\x0e\x11\x0f";
-    show(b"two calls of eight", book, 0, &[0u32; 0], 1000000);
+    show(rt, b"two calls of eight", book, 0, &[0u32; 0], 1000000)?;
     show(
+        rt,
         b"eight alone",
         book,
         1,
         &[8u32, 7, 6, 5, 4, 3, 2, 1],
         1000000,
-    );
+    )
 }
 
 // Operands go left to right: the left one calls for ever, the right one turns for ever.
-fn left_to_right() {
+fn left_to_right(rt: &impl Print) -> io::Result<()> {
     let book =
         b"\x03\x13\x00\x07\x00\x00\x00\x1a\x00\x03\x00\x00\x00\x1d\x00\x0d\x00\x00\x00\x04\x12\x00\x13\x01\x13\x02\x04\x13\x01\x03\x10\x01\x00\x00\x00\x00\x04\x10\x00\x00\x00\x00";
     show(
+        rt,
         b"too deep before it turns for ever",
         book,
         0,
         &[0u32; 0],
         1000000,
-    );
-    show(b"turns for ever", book, 2, &[0u32; 0], 1000000);
-    show(b"turns for ever, budget 7", book, 2, &[0u32; 0], 7);
+    )?;
+    show(rt, b"turns for ever", book, 2, &[0u32; 0], 1000000)?;
+    show(rt, b"turns for ever, budget 7", book, 2, &[0u32; 0], 7)
 }
 
 // The same, the other way round.
-fn right_to_left() {
+fn right_to_left(rt: &impl Print) -> io::Result<()> {
     let book =
         b"\x03\x13\x00\x07\x00\x00\x00\x1a\x00\x03\x00\x00\x00\x1d\x00\x0d\x00\x00\x00\x04\x12\x00\x13\x02\x13\x01\x04\x13\x01\x03\x10\x01\x00\x00\x00\x00\x04\x10\x00\x00\x00\x00";
     show(
+        rt,
         b"turns for ever before it is too deep",
         book,
         0,
         &[0u32; 0],
         1000000,
-    );
+    )
 }
 
 // Branches that are not taken hold every form.
-fn skipped() {
+fn skipped(rt: &impl Print) -> io::Result<()> {
     let book =
         b"\x01\x07\x00\x83\x00\x01\x01\x02\x11\x00\x02\x11\x00\x03\x11\x00\x01\x01\x13\x00\x12\x02\x11\x00\x10\x03\x00\x00\x00\x00\x01\x01\x10\x04\x00\x00\x00\x00\x01\x01\x10\x02\x00\x00\x00\x00\x01\x01\x12\x00\x11\x01\x10\x01\x00\x00\x00\x00\x02\x10\x00\x00\x00\x00\x03\x11\x00\x00\x00\x01\x01\x10\x09\x00\x00\x00\x00\x00\x03\x12\x04\x11\x01\x10\x4d\x00\x00\x00\x02\x11\x00\x00\x03\x10\x01\x00\x00\x00\x00\x00\x00\x05\x11\x00\x01\x00\x10\x06\x00\x00\x00\x05\x11\x01\x04\x11\x00\x04\x10\x08\x00\x00\x00\x02\x11\x00\x00\x00\x04\x12\x00\x11\x01\x10\x64\x00\x00\x00";
-    show(b"skipped 0", book, 0, &[0u32], 1000000);
-    show(b"skipped 0, exactly enough", book, 0, &[0u32], 18);
-    show(b"skipped 0, one short", book, 0, &[0u32], 17);
-    show(b"skipped 1, budget 300", book, 0, &[1u32], 300);
+    show(rt, b"skipped 0", book, 0, &[0u32], 1000000)?;
+    show(rt, b"skipped 0, exactly enough", book, 0, &[0u32], 18)?;
+    show(rt, b"skipped 0, one short", book, 0, &[0u32], 17)?;
+    show(rt, b"skipped 1, budget 300", book, 0, &[1u32], 300)
 }
 
 // A pick whose first sequence is long.
-fn long_pick() {
+fn long_pick(rt: &impl Print) -> io::Result<()> {
     let book =
         b"\x01\x07\x00\x39\x01\x01\x00\x05\x11\x00\x03\x10\x00\x00\x00\x00\x01\x00\x10\x00\x00\x00\x00\x00\x03\x10\x00\x00\x00\x00\x01\x00\x10\x01\x00\x00\x00\x00\x03\x10\x00\x00\x00\x00\x01\x00\x10\x02\x00\x00\x00\x00\x03\x10\x00\x00\x00\x00\x01\x00\x10\x03\x00\x00\x00\x00\x03\x10\x00\x00\x00\x00\x01\x00\x10\x04\x00\x00\x00\x00\x03\x10\x00\x00\x00\x00\x01\x00\x10\x05\x00\x00\x00\x00\x03\x10\x00\x00\x00\x00\x01\x00\x10\x06\x00\x00\x00\x00\x03\x10\x00\x00\x00\x00\x01\x00\x10\x07\x00\x00\x00\x00\x03\x10\x00\x00\x00\x00\x01\x00\x10\x08\x00\x00\x00\x00\x03\x10\x00\x00\x00\x00\x01\x00\x10\x09\x00\x00\x00\x00\x03\x10\x00\x00\x00\x00\x01\x00\x10\x0a\x00\x00\x00\x00\x03\x10\x00\x00\x00\x00\x01\x00\x10\x0b\x00\x00\x00\x00\x03\x10\x00\x00\x00\x00\x01\x00\x10\x0c\x00\x00\x00\x00\x03\x10\x00\x00\x00\x00\x01\x00\x10\x0d\x00\x00\x00\x00\x03\x10\x00\x00\x00\x00\x01\x00\x10\x0e\x00\x00\x00\x00\x03\x10\x00\x00\x00\x00\x01\x00\x10\x0f\x00\x00\x00\x00\x03\x10\x00\x00\x00\x00\x01\x00\x10\x10\x00\x00\x00\x00\x03\x10\x00\x00\x00\x00\x01\x00\x10\x11\x00\x00\x00\x00\x03\x10\x00\x00\x00\x00\x01\x00\x10\x12\x00\x00\x00\x00\x03\x10\x00\x00\x00\x00\x01\x00\x10\x13\x00\x00\x00\x00\x05\x11\x00\x04\x10\x01\x00\x00\x00\x05\x11\x00\x04\x10\x02\x00\x00\x00\x04\x10\x03\x00\x00\x00\x04\x10\x04\x00\x00\x00";
-    show(b"long pick 0", book, 0, &[0u32], 1000000);
-    show(b"long pick 1", book, 0, &[1u32], 1000000);
+    show(rt, b"long pick 0", book, 0, &[0u32], 1000000)?;
+    show(rt, b"long pick 1", book, 0, &[1u32], 1000000)
 }
 
 // A tight loop: the last step of the greatest budget.
-fn million() {
+fn million(rt: &impl Print) -> io::Result<()> {
     let book =
         b"\x01\x07\x00\x12\x00\x01\x00\x03\x11\x00\x01\x00\x12\x01\x11\x00\x10\x01\x00\x00\x00\x00\x04\x11\x00";
-    show(b"count 166665", book, 0, &[166665u32], 1000000);
-    show(b"count 166666", book, 0, &[166666u32], 1000000);
-    show(b"count 166667", book, 0, &[166667u32], 1000000);
+    show(rt, b"count 166665", book, 0, &[166665u32], 1000000)?;
+    show(rt, b"count 166666", book, 0, &[166666u32], 1000000)?;
+    show(rt, b"count 166667", book, 0, &[166667u32], 1000000)?;
     show(
+        rt,
         b"count 166666, over the budget",
         book,
         0,
         &[166666u32],
         1000001,
-    );
-    show(b"count 3, exactly enough", book, 0, &[3u32], 22);
-    show(b"count 3, one short", book, 0, &[3u32], 21);
+    )?;
+    show(rt, b"count 3, exactly enough", book, 0, &[3u32], 22)?;
+    show(rt, b"count 3, one short", book, 0, &[3u32], 21)
 }
 
 // Call depth 64 with expressions nested to depth 24 in each call.
-fn nested_sums() {
+fn nested_sums(rt: &impl Print) -> io::Result<()> {
     let book =
         b"\x01\x07\x00\x9d\x00\x00\x00\x04\x12\x00\x10\x01\x00\x00\x00\x12\x00\x10\x01\x00\x00\x00\x12\x00\x10\x01\x00\x00\x00\x12\x00\x10\x01\x00\x00\x00\x12\x00\x10\x01\x00\x00\x00\x12\x00\x10\x01\x00\x00\x00\x12\x00\x10\x01\x00\x00\x00\x12\x00\x10\x01\x00\x00\x00\x12\x00\x10\x01\x00\x00\x00\x12\x00\x10\x01\x00\x00\x00\x12\x00\x10\x01\x00\x00\x00\x12\x00\x10\x01\x00\x00\x00\x12\x00\x10\x01\x00\x00\x00\x12\x00\x10\x01\x00\x00\x00\x12\x00\x10\x01\x00\x00\x00\x12\x00\x10\x01\x00\x00\x00\x12\x00\x10\x01\x00\x00\x00\x12\x00\x10\x01\x00\x00\x00\x12\x00\x10\x01\x00\x00\x00\x12\x00\x10\x01\x00\x00\x00\x12\x00\x10\x01\x00\x00\x00\x12\x00\x10\x01\x00\x00\x00\x13\x00";
-    show(b"nested sums", book, 0, &[0u32; 0], 1000000);
-    show(b"nested sums, one short", book, 0, &[0u32; 0], 2943);
+    show(rt, b"nested sums", book, 0, &[0u32; 0], 1000000)?;
+    show(rt, b"nested sums, one short", book, 0, &[0u32; 0], 2943)
 }
 
 // The same with ifs.
-fn nested_ifs() {
+fn nested_ifs(rt: &impl Print) -> io::Result<()> {
     let book =
         b"\x01\x07\x00\xb7\x00\x00\x01\x02\x10\x01\x00\x00\x00\x02\x10\x01\x00\x00\x00\x02\x10\x01\x00\x00\x00\x02\x10\x01\x00\x00\x00\x02\x10\x01\x00\x00\x00\x02\x10\x01\x00\x00\x00\x02\x10\x01\x00\x00\x00\x02\x10\x01\x00\x00\x00\x02\x10\x01\x00\x00\x00\x02\x10\x01\x00\x00\x00\x02\x10\x01\x00\x00\x00\x02\x10\x01\x00\x00\x00\x02\x10\x01\x00\x00\x00\x02\x10\x01\x00\x00\x00\x02\x10\x01\x00\x00\x00\x02\x10\x01\x00\x00\x00\x02\x10\x01\x00\x00\x00\x02\x10\x01\x00\x00\x00\x02\x10\x01\x00\x00\x00\x02\x10\x01\x00\x00\x00\x02\x10\x01\x00\x00\x00\x02\x10\x01\x00\x00\x00\x01\x00\x13\x00\x00\x00\x00\x00\x00\x00\x00\x00\x00\x00\x00\x00\x00\x00\x00\x00\x00\x00\x00\x00\x00\x00\x00\x00\x00\x00\x00\x00\x00\x00\x00\x00\x00\x00\x00\x00\x00\x00\x00\x00\x00\x00\x00\x00\x04\x11\x00";
-    show(b"nested ifs", book, 0, &[0u32; 0], 1000000);
+    show(rt, b"nested ifs", book, 0, &[0u32; 0], 1000000)
 }
 
 // The same with loops.
-fn nested_loops() {
+fn nested_loops(rt: &impl Print) -> io::Result<()> {
     let book =
         b"\x01\x07\x00\xa1\x00\x00\x01\x03\x10\x01\x00\x00\x00\x03\x10\x01\x00\x00\x00\x03\x10\x01\x00\x00\x00\x03\x10\x01\x00\x00\x00\x03\x10\x01\x00\x00\x00\x03\x10\x01\x00\x00\x00\x03\x10\x01\x00\x00\x00\x03\x10\x01\x00\x00\x00\x03\x10\x01\x00\x00\x00\x03\x10\x01\x00\x00\x00\x03\x10\x01\x00\x00\x00\x03\x10\x01\x00\x00\x00\x03\x10\x01\x00\x00\x00\x03\x10\x01\x00\x00\x00\x03\x10\x01\x00\x00\x00\x03\x10\x01\x00\x00\x00\x03\x10\x01\x00\x00\x00\x03\x10\x01\x00\x00\x00\x03\x10\x01\x00\x00\x00\x03\x10\x01\x00\x00\x00\x03\x10\x01\x00\x00\x00\x03\x10\x01\x00\x00\x00\x01\x00\x13\x00\x00\x00\x00\x00\x00\x00\x00\x00\x00\x00\x00\x00\x00\x00\x00\x00\x00\x00\x00\x00\x00\x00\x04\x11\x00";
-    show(b"nested loops", book, 0, &[0u32; 0], 1000000);
+    show(rt, b"nested loops", book, 0, &[0u32; 0], 1000000)
 }
 
 // The same with calls of eight arguments in arguments.
-fn nested_arguments() {
+fn nested_arguments(rt: &impl Print) -> io::Result<()> {
     let book =
         b"\x02\x0d\x00\x31\x03\x00\x00\x3e\x03\x03\x00\x08\x00\x04\x13\x01\x10\x00\x00\x00\x00\x10\x00\x00\x00\x00\x10\x00\x00\x00\x00\x10\x00\x00\x00\x00\x10\x00\x00\x00\x00\x10\x00\x00\x00\x00\x10\x00\x00\x00\x00\x13\x01\x10\x00\x00\x00\x00\x10\x00\x00\x00\x00\x10\x00\x00\x00\x00\x10\x00\x00\x00\x00\x10\x00\x00\x00\x00\x10\x00\x00\x00\x00\x10\x00\x00\x00\x00\x13\x01\x10\x00\x00\x00\x00\x10\x00\x00\x00\x00\x10\x00\x00\x00\x00\x10\x00\x00\x00\x00\x10\x00\x00\x00\x00\x10\x00\x00\x00\x00\x10\x00\x00\x00\x00\x13\x01\x10\x00\x00\x00\x00\x10\x00\x00\x00\x00\x10\x00\x00\x00\x00\x10\x00\x00\x00\x00\x10\x00\x00\x00\x00\x10\x00\x00\x00\x00\x10\x00\x00\x00\x00\x13\x01\x10\x00\x00\x00\x00\x10\x00\x00\x00\x00\x10\x00\x00\x00\x00\x10\x00\x00\x00\x00\x10\x00\x00\x00\x00\x10\x00\x00\x00\x00\x10\x00\x00\x00\x00\x13\x01\x10\x00\x00\x00\x00\x10\x00\x00\x00\x00\x10\x00\x00\x00\x00\x10\x00\x00\x00\x00\x10\x00\x00\x00\x00\x10\x00\x00\x00\x00\x10\x00\x00\x00\x00\x13\x01\x10\x00\x00\x00\x00\x10\x00\x00\x00\x00\x10\x00\x00\x00\x00\x10\x00\x00\x00\x00\x10\x00\x00\x00\x00\x10\x00\x00\x00\x00\x10\x00\x00\x00\x00\x13\x01\x10\x00\x00\x00\x00\x10\x00\x00\x00\x00\x10\x00\x00\x00\x00\x10\x00\x00\x00\x00\x10\x00\x00\x00\x00\x10\x00\x00\x00\x00\x10\x00\x00\x00\x00\x13\x01\x10\x00\x00\x00\x00\x10\x00\x00\x00\x00\x10\x00\x00\x00\x00\x10\x00\x00\x00\x00\x10\x00\x00\x00\x00\x10\x00\x00\x00\x00\x10\x00\x00\x00\x00\x13\x01\x10\x00\x00\x00\x00\x10\x00\x00\x00\x00\x10\x00\x00\x00\x00\x10\x00\x00\x00\x00\x10\x00\x00\x00\x00\x10\x00\x00\x00\x00\x10\x00\x00\x00\x00\x13\x01\x10\x00\x00\x00\x00\x10\x00\x00\x00\x00\x10\x00\x00\x00\x00\x10\x00\x00\x00\x00\x10\x00\x00\x00\x00\x10\x00\x00\x00\x00\x10\x00\x00\x00\x00\x13\x01\x10\x00\x00\x00\x00\x10\x00\x00\x00\x00\x10\x00\x00\x00\x00\x10\x00\x00\x00\x00\x10\x00\x00\x00\x00\x10\x00\x00\x00\x00\x10\x00\x00\x00\x00\x13\x01\x10\x00\x00\x00\x00\x10\x00\x00\x00\x00\x10\x00\x00\x00\x00\x10\x00\x00\x00\x00\x10\x00\x00\x00\x00\x10\x00\x00\x00\x00\x10\x00\x00\x00\x00\x13\x01\x10\x00\x00\x00\x00\x10\x00\x00\x00\x00\x10\x00\x00\x00\x00\x10\x00\x00\x00\x00\x10\x00\x00\x00\x00\x10\x00\x00\x00\x00\x10\x00\x00\x00\x00\x13\x01\x10\x00\x00\x00\x00\x10\x00\x00\x00\x00\x10\x00\x00\x00\x00\x10\x00\x00\x00\x00\x10\x00\x00\x00\x00\x10\x00\x00\x00\x00\x10\x00\x00\x00\x00\x13\x01\x10\x00\x00\x00\x00\x10\x00\x00\x00\x00\x10\x00\x00\x00\x00\x10\x00\x00\x00\x00\x10\x00\x00\x00\x00\x10\x00\x00\x00\x00\x10\x00\x00\x00\x00\x13\x01\x10\x00\x00\x00\x00\x10\x00\x00\x00\x00\x10\x00\x00\x00\x00\x10\x00\x00\x00\x00\x10\x00\x00\x00\x00\x10\x00\x00\x00\x00\x10\x00\x00\x00\x00\x13\x01\x10\x00\x00\x00\x00\x10\x00\x00\x00\x00\x10\x00\x00\x00\x00\x10\x00\x00\x00\x00\x10\x00\x00\x00\x00\x10\x00\x00\x00\x00\x10\x00\x00\x00\x00\x13\x01\x10\x00\x00\x00\x00\x10\x00\x00\x00\x00\x10\x00\x00\x00\x00\x10\x00\x00\x00\x00\x10\x00\x00\x00\x00\x10\x00\x00\x00\x00\x10\x00\x00\x00\x00\x13\x01\x10\x00\x00\x00\x00\x10\x00\x00\x00\x00\x10\x00\x00\x00\x00\x10\x00\x00\x00\x00\x10\x00\x00\x00\x00\x10\x00\x00\x00\x00\x10\x00\x00\x00\x00\x13\x01\x10\x00\x00\x00\x00\x10\x00\x00\x00\x00\x10\x00\x00\x00\x00\x10\x00\x00\x00\x00\x10\x00\x00\x00\x00\x10\x00\x00\x00\x00\x10\x00\x00\x00\x00\x13\x01\x10\x00\x00\x00\x00\x10\x00\x00\x00\x00\x10\x00\x00\x00\x00\x10\x00\x00\x00\x00\x10\x00\x00\x00\x00\x10\x00\x00\x00\x00\x10\x00\x00\x00\x00\x13\x00\x04\x11\x07";
-    show(b"nested arguments", book, 0, &[0u32; 0], 1000000);
-    show(b"nested arguments, one short", book, 0, &[0u32; 0], 11391);
+    show(rt, b"nested arguments", book, 0, &[0u32; 0], 1000000)?;
+    show(
+        rt,
+        b"nested arguments, one short",
+        book,
+        0,
+        &[0u32; 0],
+        11391,
+    )
 }
 
 // Depth exactly 64, and 65.
-fn depth() {
+fn depth(rt: &impl Print) -> io::Result<()> {
     let book =
         b"\x01\x07\x00\x1c\x00\x01\x00\x05\x11\x00\x04\x12\x00\x10\x01\x00\x00\x00\x13\x00\x12\x01\x11\x00\x10\x01\x00\x00\x00\x04\x10\x00\x00\x00\x00";
-    show(b"count of 63, depth 64", book, 0, &[63u32], 1000000);
-    show(b"count of 64, depth 65", book, 0, &[64u32], 1000000);
+    show(rt, b"count of 63, depth 64", book, 0, &[63u32], 1000000)?;
+    show(rt, b"count of 64, depth 65", book, 0, &[64u32], 1000000)
 }
 
 // Refusals, and their order.
-fn refusals() {
+fn refusals(rt: &impl Print) -> io::Result<()> {
     let book = b"\x01\x07\x00\x03\x00\x01\x00\x04\x11\x00";
-    show(b"no such procedure", book, 1, &[9u32], 1000000);
+    show(rt, b"no such procedure", book, 1, &[9u32], 1000000)?;
     show_1023(
+        rt,
         b"no such procedure before inputs, cells and budget",
         book,
         32,
         &[0u32; 0],
         1000001,
-    );
-    show(b"no inputs", book, 0, &[0u32; 0], 1000000);
-    show(b"two inputs", book, 0, &[9u32, 9], 1000000);
+    )?;
+    show(rt, b"no inputs", book, 0, &[0u32; 0], 1000000)?;
+    show(rt, b"two inputs", book, 0, &[9u32, 9], 1000000)?;
     show_1023(
+        rt,
         b"inputs before cells and budget",
         book,
         0,
         &[0u32; 0],
         1000001,
-    );
-    show_1023(b"1,023 cells", book, 0, &[9u32], 1000000);
-    show_1023(b"cells before budget", book, 0, &[9u32], 1000001);
-    show_1024(b"1,024 cells", book, 0, &[9u32], 1000000);
-    show(b"over the greatest budget", book, 0, &[9u32], 1000001);
+    )?;
+    show_1023(rt, b"1,023 cells", book, 0, &[9u32], 1000000)?;
+    show_1023(rt, b"cells before budget", book, 0, &[9u32], 1000001)?;
+    show_1024(rt, b"1,024 cells", book, 0, &[9u32], 1000000)?;
+    show(rt, b"over the greatest budget", book, 0, &[9u32], 1000001)
 }
 
 // A book of no bytes.
-fn no_book() {
+fn no_book(rt: &impl Print) -> io::Result<()> {
     let book = b"";
-    show(b"no bytes", book, 0, &[9u32], 1000000);
+    show(rt, b"no bytes", book, 0, &[9u32], 1000000)
 }
 
 // Parameters out of range, before everything of the run.
-fn bad_contents() {
+fn bad_contents(rt: &impl Print) -> io::Result<()> {
     let book = b"\x01\x07\x00\x03\x00\x09\x00\x04\x11\x00";
-    show_1023(b"bad contents", book, 1, &[9u32], 1000001);
+    show_1023(rt, b"bad contents", book, 1, &[9u32], 1000001)
 }
 
 // A variable that is not there.
-fn bad_body() {
+fn bad_body(rt: &impl Print) -> io::Result<()> {
     let book = b"\x01\x07\x00\x03\x00\x01\x00\x04\x11\x01";
-    show_1023(b"bad body", book, 1, &[9u32], 1000001);
+    show_1023(rt, b"bad body", book, 1, &[9u32], 1000001)
 }
 
 // 65 loops, and 64.
-fn many_loops() {
+fn many_loops(rt: &impl Print) -> io::Result<()> {
     let book =
         b"\x01\x07\x00\xcd\x01\x00\x00\x03\x10\x00\x00\x00\x00\x00\x03\x10\x00\x00\x00\x00\x00\x03\x10\x00\x00\x00\x00\x00\x03\x10\x00\x00\x00\x00\x00\x03\x10\x00\x00\x00\x00\x00\x03\x10\x00\x00\x00\x00\x00\x03\x10\x00\x00\x00\x00\x00\x03\x10\x00\x00\x00\x00\x00\x03\x10\x00\x00\x00\x00\x00\x03\x10\x00\x00\x00\x00\x00\x03\x10\x00\x00\x00\x00\x00\x03\x10\x00\x00\x00\x00\x00\x03\x10\x00\x00\x00\x00\x00\x03\x10\x00\x00\x00\x00\x00\x03\x10\x00\x00\x00\x00\x00\x03\x10\x00\x00\x00\x00\x00\x03\x10\x00\x00\x00\x00\x00\x03\x10\x00\x00\x00\x00\x00\x03\x10\x00\x00\x00\x00\x00\x03\x10\x00\x00\x00\x00\x00\x03\x10\x00\x00\x00\x00\x00\x03\x10\x00\x00\x00\x00\x00\x03\x10\x00\x00\x00\x00\x00\x03\x10\x00\x00\x00\x00\x00\x03\x10\x00\x00\x00\x00\x00\x03\x10\x00\x00\x00\x00\x00\x03\x10\x00\x00\x00\x00\x00\x03\x10\x00\x00\x00\x00\x00\x03\x10\x00\x00\x00\x00\x00\x03\x10\x00\x00\x00\x00\x00\x03\x10\x00\x00\x00\x00\x00\x03\x10\x00\x00\x00\x00\x00\x03\x10\x00\x00\x00\x00\x00\x03\x10\x00\x00\x00\x00\x00\x03\x10\x00\x00\x00\x00\x00\x03\x10\x00\x00\x00\x00\x00\x03\x10\x00\x00\x00\x00\x00\x03\x10\x00\x00\x00\x00\x00\x03\x10\x00\x00\x00\x00\x00\x03\x10\x00\x00\x00\x00\x00\x03\x10\x00\x00\x00\x00\x00\x03\x10\x00\x00\x00\x00\x00\x03\x10\x00\x00\x00\x00\x00\x03\x10\x00\x00\x00\x00\x00\x03\x10\x00\x00\x00\x00\x00\x03\x10\x00\x00\x00\x00\x00\x03\x10\x00\x00\x00\x00\x00\x03\x10\x00\x00\x00\x00\x00\x03\x10\x00\x00\x00\x00\x00\x03\x10\x00\x00\x00\x00\x00\x03\x10\x00\x00\x00\x00\x00\x03\x10\x00\x00\x00\x00\x00\x03\x10\x00\x00\x00\x00\x00\x03\x10\x00\x00\x00\x00\x00\x03\x10\x00\x00\x00\x00\x00\x03\x10\x00\x00\x00\x00\x00\x03\x10\x00\x00\x00\x00\x00\x03\x10\x00\x00\x00\x00\x00\x03\x10\x00\x00\x00\x00\x00\x03\x10\x00\x00\x00\x00\x00\x03\x10\x00\x00\x00\x00\x00\x03\x10\x00\x00\x00\x00\x00\x03\x10\x00\x00\x00\x00\x00\x03\x10\x00\x00\x00\x00\x00\x03\x10\x00\x00\x00\x00\x00\x04\x10\x01\x00\x00\x00";
-    show(b"65 loops", book, 0, &[0u32; 0], 1000000);
+    show(rt, b"65 loops", book, 0, &[0u32; 0], 1000000)
 }
 
-fn most_loops() {
+fn most_loops(rt: &impl Print) -> io::Result<()> {
     let book =
         b"\x01\x07\x00\xc6\x01\x00\x00\x03\x10\x00\x00\x00\x00\x00\x03\x10\x00\x00\x00\x00\x00\x03\x10\x00\x00\x00\x00\x00\x03\x10\x00\x00\x00\x00\x00\x03\x10\x00\x00\x00\x00\x00\x03\x10\x00\x00\x00\x00\x00\x03\x10\x00\x00\x00\x00\x00\x03\x10\x00\x00\x00\x00\x00\x03\x10\x00\x00\x00\x00\x00\x03\x10\x00\x00\x00\x00\x00\x03\x10\x00\x00\x00\x00\x00\x03\x10\x00\x00\x00\x00\x00\x03\x10\x00\x00\x00\x00\x00\x03\x10\x00\x00\x00\x00\x00\x03\x10\x00\x00\x00\x00\x00\x03\x10\x00\x00\x00\x00\x00\x03\x10\x00\x00\x00\x00\x00\x03\x10\x00\x00\x00\x00\x00\x03\x10\x00\x00\x00\x00\x00\x03\x10\x00\x00\x00\x00\x00\x03\x10\x00\x00\x00\x00\x00\x03\x10\x00\x00\x00\x00\x00\x03\x10\x00\x00\x00\x00\x00\x03\x10\x00\x00\x00\x00\x00\x03\x10\x00\x00\x00\x00\x00\x03\x10\x00\x00\x00\x00\x00\x03\x10\x00\x00\x00\x00\x00\x03\x10\x00\x00\x00\x00\x00\x03\x10\x00\x00\x00\x00\x00\x03\x10\x00\x00\x00\x00\x00\x03\x10\x00\x00\x00\x00\x00\x03\x10\x00\x00\x00\x00\x00\x03\x10\x00\x00\x00\x00\x00\x03\x10\x00\x00\x00\x00\x00\x03\x10\x00\x00\x00\x00\x00\x03\x10\x00\x00\x00\x00\x00\x03\x10\x00\x00\x00\x00\x00\x03\x10\x00\x00\x00\x00\x00\x03\x10\x00\x00\x00\x00\x00\x03\x10\x00\x00\x00\x00\x00\x03\x10\x00\x00\x00\x00\x00\x03\x10\x00\x00\x00\x00\x00\x03\x10\x00\x00\x00\x00\x00\x03\x10\x00\x00\x00\x00\x00\x03\x10\x00\x00\x00\x00\x00\x03\x10\x00\x00\x00\x00\x00\x03\x10\x00\x00\x00\x00\x00\x03\x10\x00\x00\x00\x00\x00\x03\x10\x00\x00\x00\x00\x00\x03\x10\x00\x00\x00\x00\x00\x03\x10\x00\x00\x00\x00\x00\x03\x10\x00\x00\x00\x00\x00\x03\x10\x00\x00\x00\x00\x00\x03\x10\x00\x00\x00\x00\x00\x03\x10\x00\x00\x00\x00\x00\x03\x10\x00\x00\x00\x00\x00\x03\x10\x00\x00\x00\x00\x00\x03\x10\x00\x00\x00\x00\x00\x03\x10\x00\x00\x00\x00\x00\x03\x10\x00\x00\x00\x00\x00\x03\x10\x00\x00\x00\x00\x00\x03\x10\x00\x00\x00\x00\x00\x03\x10\x00\x00\x00\x00\x00\x03\x10\x00\x00\x00\x00\x00\x04\x10\x01\x00\x00\x00";
-    show(b"64 loops", book, 0, &[0u32; 0], 1000000);
+    show(rt, b"64 loops", book, 0, &[0u32; 0], 1000000)
 }
 
-fn main() {
-    book_a();
-    book_b();
-    book_c();
-    book_d();
-    book_e();
-    book_f();
-    book_g();
-    book_g_23();
-    book_g_empty();
-    book_m();
-    operation_sum();
-    operation_difference();
-    operation_product();
-    operation_quotient();
-    operation_equal();
-    operation_less();
-    operation_smaller();
-    operation_larger();
-    mutual();
-    called_loop();
-    eight();
-    left_to_right();
-    right_to_left();
-    skipped();
-    long_pick();
-    million();
-    nested_sums();
-    nested_ifs();
-    nested_loops();
-    nested_arguments();
-    depth();
-    refusals();
-    no_book();
-    bad_contents();
-    bad_body();
-    many_loops();
-    most_loops();
+fn main(rt: HostRuntime) -> io::Result<()> {
+    book_a(&rt)?;
+    book_b(&rt)?;
+    book_c(&rt)?;
+    book_d(&rt)?;
+    book_e(&rt)?;
+    book_f(&rt)?;
+    book_g(&rt)?;
+    book_g_23(&rt)?;
+    book_g_empty(&rt)?;
+    book_m(&rt)?;
+    operation_sum(&rt)?;
+    operation_difference(&rt)?;
+    operation_product(&rt)?;
+    operation_quotient(&rt)?;
+    operation_equal(&rt)?;
+    operation_less(&rt)?;
+    operation_smaller(&rt)?;
+    operation_larger(&rt)?;
+    mutual(&rt)?;
+    called_loop(&rt)?;
+    eight(&rt)?;
+    left_to_right(&rt)?;
+    right_to_left(&rt)?;
+    skipped(&rt)?;
+    long_pick(&rt)?;
+    million(&rt)?;
+    nested_sums(&rt)?;
+    nested_ifs(&rt)?;
+    nested_loops(&rt)?;
+    nested_arguments(&rt)?;
+    depth(&rt)?;
+    refusals(&rt)?;
+    no_book(&rt)?;
+    bad_contents(&rt)?;
+    bad_body(&rt)?;
+    many_loops(&rt)?;
+    most_loops(&rt)
 }
