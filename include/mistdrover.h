@@ -17,7 +17,7 @@
  * If several refusals apply the lowest number is returned. On a refusal every element of the answer
  * is 0 and all other lent memory is unchanged.
  *
- * Link with -lmistdrover; `rt staticlib mistdrover` writes target/staticlib/libmistdrover.a.
+ * Link with -lmistdrover; `tools/staticlib` writes target/staticlib/libmistdrover.a.
  */
 #ifndef MISTDROVER_H
 #define MISTDROVER_H

@@ -1,7 +1,7 @@
 //! Links the proved static library `libmistdrover.a`.
 //!
 //! Its folder is MISTDROVER_LIB, an absolute path or one from the folder `rust/`; without it,
-//! `../target/staticlib`, where `rt staticlib mistdrover` puts it.
+//! `../target/staticlib`, where `tools/staticlib` puts it.
 
 use std::path::{Path, PathBuf};
 
@@ -15,7 +15,7 @@ fn main() {
     println!("cargo:rerun-if-changed={}", library.display());
     if !library.is_file() {
         panic!(
-            "\n\n{} is not there. Build it with `rt staticlib mistdrover` at the top of the \
+            "\n\n{} is not there. Build it with `tools/staticlib` at the top of the \
              repository, or name its folder in {VARIABLE}.\n(`cargo test -p plain` needs no library.)\n",
             library.display()
         );

@@ -1,4 +1,5 @@
-// The public face: the five entries as C functions. Each returns the refusal number, 0 for none, and always fills the answer.
+// The public face: the five entries with the signatures of C functions, which `mistdrover_c` exports.
+// Each returns the refusal number, 0 for none, and always fills the answer.
 #![tactic(auto)]
 
 ghost use Rattle.std.specs.Prelude.{◌≡◌};
