@@ -1,5 +1,5 @@
 // The levels of the inputs, and the files.
-ghost use Rattle.std.specs.Prelude.{◌≡◌, ◌≤◌, length, IfOk};
+ghost use Rattle.std.specs.Prelude.{◌≡◌, ◌≤◌, length, take, IfOk};
 
 use crate::arguments::{Asked, LONGEST, number_or_line};
 use std::env::{Env, FillError};
@@ -35,7 +35,7 @@ fn keep(levels: &mut [u8], at: usize, level: u8) -> usize
 
 // The levels that stand behind the procedure.
 pub fn levels_of(rt: HostRuntime, a: Asked, levels: &mut [u8]) -> io::Result<Got>
-    ensures { IfOk result (λ got. got.length ≤ length levels.new) }
+    ensures { IfOk result (λ got. (got.length ≤ length levels.new) × (got.length ≡ length (take got.length levels.new))) }
 {
     let mut read = 0;
     for j in 4..a.plain() {
@@ -82,7 +82,7 @@ fn words_of(text: &str) -> &str {
 
 // The file that the argument at this place names, as far as the buffer goes; a line on standard error where it cannot be read.
 pub fn file_at(rt: HostRuntime, place: usize, buffer: &mut [u8]) -> io::Result<Got>
-    ensures { IfOk result (λ got. got.length ≤ length buffer.new) }
+    ensures { IfOk result (λ got. (got.length ≤ length buffer.new) × (got.length ≡ length (take got.length buffer.new))) }
 {
     let mut name = [0u8; LONGEST];
     match rt.arg(place, &mut name) {
@@ -104,7 +104,7 @@ fn no_name(e: FillError) -> io::Error {
 
 // The file of this name, as far as the buffer goes; a line on standard error where it cannot be read.
 fn named(rt: HostRuntime, name: &[u8], buffer: &mut [u8]) -> io::Result<Got>
-    ensures { IfOk result (λ got. got.length ≤ length buffer.new) }
+    ensures { IfOk result (λ got. (got.length ≤ length buffer.new) × (got.length ≡ length (take got.length buffer.new))) }
 {
     match read_named(rt, name, buffer) {
         Ok(length) => Ok(Got { ok: true, length }),

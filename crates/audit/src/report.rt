@@ -7,8 +7,8 @@ use levels::at_or_below;
 use sets::Set;
 use std::io;
 
-fn say(rt: &impl Print, text: &str) -> io::Result<()> {
-    rt.print(text)
+fn say(rt: &impl Print, text: &[u8]) -> io::Result<()> {
+    rt.write_all(text)
 }
 
 fn say_number(rt: &impl Print, n: usize) -> io::Result<()> {
@@ -38,14 +38,14 @@ fn result_of(summary: &[u8], procedure: usize) -> u8
 }
 
 fn say_input(rt: &impl Print, i: usize, level: u8, rests: bool) -> io::Result<()> {
-    say(rt, "input ")?;
+    say(rt, b"input ")?;
     say_number(rt, i)?;
-    say(rt, ", level ")?;
+    say(rt, b", level ")?;
     say_number(rt, number(level))?;
     if rests {
-        say(rt, ": the answer may rest on it\n")
+        say(rt, b": the answer may rest on it\n")
     } else {
-        say(rt, ": the answer does not rest on it\n")
+        say(rt, b": the answer does not rest on it\n")
     }
 }
 
@@ -69,7 +69,7 @@ fn say_if(
     if at_or_below(table, at, level) != below {
         return Ok(false);
     }
-    say(rt, " ")?;
+    say(rt, b" ")?;
     say_number(rt, i)?;
     Ok(true)
 }
@@ -89,9 +89,9 @@ fn say_standing(
         }
     }
     if !some {
-        say(rt, " none")?;
+        say(rt, b" none")?;
     }
-    say(rt, "\n")
+    say(rt, b"\n")
 }
 
 // The answer, where nothing is refused.
@@ -104,56 +104,56 @@ pub fn say_answer(
     level: u8,
 ) -> io::Result<()> {
     say_inputs(rt, levels, result_of(summary, procedure))?;
-    say(rt, "reported level: ")?;
+    say(rt, b"reported level: ")?;
     say_number(rt, number(level))?;
     say(
         rt,
-        "\ninputs at or below that level, which may show in the answer:",
+        b"\ninputs at or below that level, which may show in the answer:",
     )?;
     say_standing(rt, table, levels, level, true)?;
-    say(rt, "other inputs, which cannot show in the answer:")?;
+    say(rt, b"other inputs, which cannot show in the answer:")?;
     say_standing(rt, table, levels, level, false)
 }
 
 pub fn say_found(rt: &impl Print, size: usize, rounds: usize) -> io::Result<()> {
-    say(rt, "summary: ")?;
+    say(rt, b"summary: ")?;
     say_number(rt, size)?;
-    say(rt, " bytes, found in ")?;
+    say(rt, b" bytes, found in ")?;
     say_number(rt, rounds)?;
-    say(rt, " rounds\n")
+    say(rt, b" rounds\n")
 }
 
 pub fn say_accepted(rt: &impl Print, size: usize) -> io::Result<()> {
-    say(rt, "summary: ")?;
+    say(rt, b"summary: ")?;
     say_number(rt, size)?;
-    say(rt, " bytes, as given; it satisfies the flow rules\n")
+    say(rt, b" bytes, as given; it satisfies the flow rules\n")
 }
 
 // What a refusal number means.
 fn say_reason(rt: &impl Print, refusal: u8) -> io::Result<()> {
     match refusal {
-        1 => say(rt, "the book is empty or has more than 32768 bytes\n"),
-        2 => say(rt, "the book's table of contents breaks a rule\n"),
-        3 => say(rt, "a body in the book breaks a rule\n"),
-        4 => say(rt, "the book holds more than 64 loops\n"),
-        5 => say(rt, "the level table is not valid\n"),
-        6 => say(rt, "the book has no such procedure\n"),
+        1 => say(rt, b"the book is empty or has more than 32768 bytes\n"),
+        2 => say(rt, b"the book's table of contents breaks a rule\n"),
+        3 => say(rt, b"a body in the book breaks a rule\n"),
+        4 => say(rt, b"the book holds more than 64 loops\n"),
+        5 => say(rt, b"the level table is not valid\n"),
+        6 => say(rt, b"the book has no such procedure\n"),
         7 => say(
             rt,
-            "there is not one level for each input, or a level is not in the table\n",
+            b"there is not one level for each input, or a level is not in the table\n",
         ),
         8 => say(
             rt,
-            "the summary's length is not the size that the book asks\n",
+            b"the summary's length is not the size that the book asks\n",
         ),
-        _ => say(rt, "the summary does not satisfy the flow rules\n"),
+        _ => say(rt, b"the summary does not satisfy the flow rules\n"),
     }
 }
 
 pub fn say_refused(rt: &impl Print, refusal: u8) -> io::Result<()> {
-    say(rt, "refused ")?;
+    say(rt, b"refused ")?;
     say_number(rt, number(refusal))?;
-    say(rt, ": ")?;
+    say(rt, b": ")?;
     say_reason(rt, refusal)
 }
 
@@ -164,31 +164,31 @@ pub fn say_usage(rt: &impl Eprint) -> io::Result<()> {
 pub fn say_help(rt: &impl Print) -> io::Result<()> {
     say(
         rt,
-        "usage: audit BOOK TABLE PROCEDURE LEVEL.. [--summary FILE]\n\n",
+        b"usage: audit BOOK TABLE PROCEDURE LEVEL.. [--summary FILE]\n\n",
     )?;
     say(
         rt,
-        "BOOK is a recipe book, TABLE a level table, PROCEDURE the number of a procedure of the book,\n",
+        b"BOOK is a recipe book, TABLE a level table, PROCEDURE the number of a procedure of the book,\n",
     )?;
     say(
         rt,
-        "and each LEVEL the level of one of its inputs, in order, as a decimal number.\n",
+        b"and each LEVEL the level of one of its inputs, in order, as a decimal number.\n",
     )?;
     say(
         rt,
-        "Without --summary the least summary of the book is found; with it, the one in FILE is checked.\n\n",
+        b"Without --summary the least summary of the book is found; with it, the one in FILE is checked.\n\n",
     )?;
     say(
         rt,
-        "For each input a line says whether the answer may rest on it. Then come the reported level,\n",
+        b"For each input a line says whether the answer may rest on it. Then come the reported level,\n",
     )?;
     say(
         rt,
-        "the inputs that stand at or below it, and the others: two runs that finish, and whose inputs\n",
+        b"the inputs that stand at or below it, and the others: two runs that finish, and whose inputs\n",
     )?;
     say(
         rt,
-        "differ only in the others, give the same answer. What cannot be answered is refused with a\n",
+        b"differ only in the others, give the same answer. What cannot be answered is refused with a\n",
     )?;
-    say(rt, "number and its reason.\n")
+    say(rt, b"number and its reason.\n")
 }
