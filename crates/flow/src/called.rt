@@ -6,6 +6,9 @@ ghost use Rattle.flow.specs.Waking.{BehindPost, ScanPost};
 use crate::mask::{PROCEDURES, with};
 use book::bytes::{number, pair};
 
+// The code of a call.
+const CALL: u8 = 0x13;
+
 // For each procedure the set of those that it may call.
 pub fn scan(book: &[u8]) -> [u32; PROCEDURES]
     requires { BookHere book.now }
@@ -30,7 +33,7 @@ fn behind(book: &[u8], at: usize, end: usize) -> u32
     let mut mask: u32 = 0;
     let mut i = at;
     while i + 1 < end {
-        if book[i] == 0x13 {
+        if book[i] == CALL {
             let p = number(book[i + 1]);
             if p < PROCEDURES {
                 mask = with(mask, p);
