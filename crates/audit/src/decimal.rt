@@ -17,6 +17,9 @@ pub fn none() -> Number
     }
 }
 
+// The digit 9.
+const NINE: u8 = 57;
+
 // The number that a text of 1 to 18 digits says.
 pub fn parse(text: &[u8]) -> Number
     ensures { ReadsNumber text.now result.known result.value }
@@ -33,7 +36,7 @@ pub fn parse(text: &[u8]) -> Number
         if b < 48 {
             return none();
         }
-        if 57 < b {
+        if NINE < b {
             return none();
         }
         value = 10 * value + wide(b - 48);

@@ -3,11 +3,14 @@ ghost use Rattle.std.specs.Prelude.{◌≡◌, ◌≤◌, length, take, IfOk};
 
 use crate::arguments::{Asked, LONGEST, number_or_line};
 use std::env::{Env, FillError};
-use std::io::{ErrorKind, Read};
+use std::io::{ErrorKind, Read, Write};
 use std::{fs, io, str};
 
 // One more than the most parameters: a ninth level is one too many for every procedure.
 pub const MOST_LEVELS: usize = 9;
+
+// Room for an error's text.
+const WORDS: usize = 512;
 
 // How many were read, if all could be.
 #[derive(Drop)]
@@ -63,21 +66,26 @@ fn nothing() -> Got
 
 // A line on standard error: what failed, and why.
 fn fail(rt: HostRuntime, what: &[u8], why: io::Error) -> io::Result<()> {
-    let text = format!(in rt.alloc(); "{why}")?;
+    let mut text = [0u8; WORDS];
+    let mut rest = &mut text[..];
+    write!(rest, "{why}")?;
+    let length = WORDS.saturating_sub(rest.len());
     let stderr = rt.stderr();
     stderr.write_all(b"audit: ")?;
     stderr.write_all(what)?;
     stderr.write_all(b": ")?;
-    stderr.print(words_of(text.as_str()))?;
+    stderr.write_all(words_of(&text[..length]))?;
     stderr.write_all(b"\n")
 }
 
 // The system's words for an error, without the number that `std` writes behind them.
-fn words_of(text: &str) -> &str {
-    match text.split_once(" (os error ") {
-        Some((words, _)) => words,
-        None => text,
+fn words_of(text: &[u8]) -> &[u8] {
+    for i in 0..text.len() {
+        if text[i..].starts_with(b" (os error ") {
+            return &text[..i];
+        }
     }
+    text
 }
 
 // The file that the argument at this place names, as far as the buffer goes; a line on standard error where it cannot be read.
@@ -123,26 +131,25 @@ fn read_named(rt: HostRuntime, name: &[u8], buffer: &mut [u8]) -> io::Result<usi
         return Err(io::Error::new(ErrorKind::InvalidFilename, "File name not in UTF-8"));
     };
     let mut file = fs::open(&rt, name)?;
-    let length = read_full(&mut file, buffer)?;
+    let length = read_full(&mut file, buffer);
     match fails(&mut file) {
         None => Ok(length),
         Some(why) => Err(why),
     }
 }
 
-// Reads until the buffer is full or the file ends, and answers how many bytes stand at its start.
-fn read_full(file: &mut impl Read, buffer: &mut [u8]) -> io::Result<usize>
-    ensures { IfOk result (λ n. n ≤ length buffer.new) }
+// Reads until the buffer is full, the file ends or a read fails, and answers how many bytes stand at its start.
+fn read_full(file: &mut impl Read, buffer: &mut [u8]) -> usize
+    ensures { result ≤ length buffer.new }
 {
     let mut done = 0;
     while done < buffer.len() {
-        let n = file.read(&mut buffer[done..])?;
-        if n == 0 {
-            break;
+        match file.read(&mut buffer[done..]) {
+            Ok(0) | Err(_) => break,
+            Ok(n) => done += n,
         }
-        done += n;
     }
-    Ok(done)
+    done
 }
 
 // Why one more read fails: at the end of a file it does not.

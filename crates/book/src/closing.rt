@@ -89,7 +89,8 @@ pub fn body(part: &[u8], variables: usize, arities: &[u8]) -> Taken
     let Taken::Bytes { taken, loops } = all else {
         return all;
     };
-    if taken < part.len() {
+    let more = taken < part.len();
+    if more {
         Taken::Fault {
             reason: LEFT_OVER,
             place: taken,

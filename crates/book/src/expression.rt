@@ -72,6 +72,9 @@ pub fn expr(part: &[u8], variables: usize, arities: &[u8], depth: usize) -> Take
     }
 }
 
+// How many operations there are.
+const OPERATIONS: u8 = 8;
+
 // 12 o E E, the operands with `depth` levels left.
 #[cycle(expressions)]
 fn operation(part: &[u8], variables: usize, arities: &[u8], depth: usize) -> Taken
@@ -84,7 +87,7 @@ fn operation(part: &[u8], variables: usize, arities: &[u8], depth: usize) -> Tak
             place: 1,
         };
     }
-    if part[1] < 8 {
+    if part[1] < OPERATIONS {
         arguments(part, 2, variables, arities, depth)
     } else {
         Taken::Fault {

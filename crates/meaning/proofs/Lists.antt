@@ -10,6 +10,12 @@ use native.Mathlib.Decide.{ℕ_discrete}
 use lib.ListN.{length, get_or, length-append, get_or-append}
 use lib.Seq.{get_or_at}
 use Rattle.meaning.specs.Lists.{each, fold, every, some_below}
+use Rattle.meaning.specs.Worked.{EveryRow}
+use Rattle.meaning.proofs.Starred.{every_row}
+
+-- The table of starred cases: it stands here, so that a changed definition meets it before any theorem.
+table_holds : EveryRow
+table_holds = every_row
 
 -- A conjunction that holds, in its parts and back.
 pub both_left : (a b : Bool) → (a && b) ≡ true → a ≡ true

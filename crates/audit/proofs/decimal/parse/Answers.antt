@@ -16,8 +16,8 @@ loop-i-init c = upto_none c.args.text.now
 pub returns-then-b-lt48 : goal.returns-then-b-lt48
 returns-then-b-lt48 c = none_low c.loop-i.i (search rules) c.if-b-lt48.true c.none-then-b-lt48.ensures
 
-pub returns-then-b-gt57 : goal.returns-then-b-gt57
-returns-then-b-gt57 c = none_high c.loop-i.i (search rules) c.if-b-gt57.true c.none-then-b-gt57.ensures
+pub returns-then-b-gt-NINE : goal.returns-then-b-gt-NINE
+returns-then-b-gt-NINE c = none_high c.loop-i.i (search rules) c.if-b-gt-NINE.true c.none-then-b-gt-NINE.ensures
 
 pub overflow_mul-value : goal.overflow_mul-value
 overflow_mul-value c =
@@ -30,7 +30,7 @@ overflow_add-value c =
     omega (arith, upto_room c.loop-i.invariant few)
 
 pub loop-i-preserved : goal.loop-i-preserved
-loop-i-preserved c = upto_more c.loop-i.invariant c.if-b-lt48.false c.if-b-gt57.false c.wide.ensures
+loop-i-preserved c = upto_more c.loop-i.invariant c.if-b-lt48.false c.if-b-gt-NINE.false c.wide.ensures
 
 pub returns : goal.returns
 returns c = upto_all (search rules) c.if-text-lt1.false c.if-text-gt18.false c.loop-i.invariant

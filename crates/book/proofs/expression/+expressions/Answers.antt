@@ -61,8 +61,8 @@ expr-returns-in_default t c = search expr_unknown
 pub operation-returns-then-part-lt2 : goal.operation-returns-then-part-lt2
 operation-returns-then-part-lt2 t c = search operation_short
 
-pub operation-returns-then-part-lt8 : goal.operation-returns-then-part-lt8
-operation-returns-then-part-lt8 t c = search operation_known
+pub operation-returns-then-part-lt-OPERATIONS : goal.operation-returns-then-part-lt-OPERATIONS
+operation-returns-then-part-lt-OPERATIONS t c = search operation_known
 
-pub operation-returns-else-part-lt8 : goal.operation-returns-else-part-lt8
-operation-returns-else-part-lt8 t c = search operation_unknown
+pub operation-returns-else-part-lt-OPERATIONS : goal.operation-returns-else-part-lt-OPERATIONS
+operation-returns-else-part-lt-OPERATIONS t c = search operation_unknown
