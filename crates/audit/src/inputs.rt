@@ -36,9 +36,10 @@ fn keep(levels: &mut [u8], at: usize, level: u8) -> usize
     at
 }
 
-// The levels that stand behind the procedure.
+// The levels that stand behind the procedure. An error is that of a line on standard error that could not be written.
 pub fn levels_of(rt: HostRuntime, a: Asked, levels: &mut [u8]) -> io::Result<Got>
-    ensures { IfOk result (λ got. (got.length ≤ length levels.new) × (got.length ≡ length (take got.length levels.new))) }
+    ensures prefix { IfOk result (λ got. (got.length ≤ length levels.new) × (got.length ≡ length (take got.length levels.new))) }
+    ensures kept { length levels.new ≡ length levels.old }
 {
     let mut read = 0;
     for j in 4..a.plain() {
@@ -89,8 +90,10 @@ fn words_of(text: &[u8]) -> &[u8] {
 }
 
 // The file that the argument at this place names, as far as the buffer goes; a line on standard error where it cannot be read.
+// An error is that of this line.
 pub fn file_at(rt: HostRuntime, place: usize, buffer: &mut [u8]) -> io::Result<Got>
-    ensures { IfOk result (λ got. (got.length ≤ length buffer.new) × (got.length ≡ length (take got.length buffer.new))) }
+    ensures prefix { IfOk result (λ got. (got.length ≤ length buffer.new) × (got.length ≡ length (take got.length buffer.new))) }
+    ensures kept { length buffer.new ≡ length buffer.old }
 {
     let mut name = [0u8; LONGEST];
     match rt.arg(place, &mut name) {
@@ -112,7 +115,8 @@ fn no_name(e: FillError) -> io::Error {
 
 // The file of this name, as far as the buffer goes; a line on standard error where it cannot be read.
 fn named(rt: HostRuntime, name: &[u8], buffer: &mut [u8]) -> io::Result<Got>
-    ensures { IfOk result (λ got. (got.length ≤ length buffer.new) × (got.length ≡ length (take got.length buffer.new))) }
+    ensures prefix { IfOk result (λ got. (got.length ≤ length buffer.new) × (got.length ≡ length (take got.length buffer.new))) }
+    ensures kept { length buffer.new ≡ length buffer.old }
 {
     match read_named(rt, name, buffer) {
         Ok(length) => Ok(Got { ok: true, length }),
