@@ -2,6 +2,7 @@
 ghost use Rattle.std.specs.Prelude.{◌≡◌, ◌≤◌, length, take, IfOk};
 
 use crate::arguments::{Asked, LONGEST, number_or_line};
+use input::read_full;
 use std::env::{Env, FillError};
 use std::io::{ErrorKind, Read, Write};
 use std::{fs, io, str};
@@ -140,20 +141,6 @@ fn read_named(rt: HostRuntime, name: &[u8], buffer: &mut [u8]) -> io::Result<usi
         None => Ok(length),
         Some(why) => Err(why),
     }
-}
-
-// Reads until the buffer is full, the file ends or a read fails, and answers how many bytes stand at its start.
-fn read_full(file: &mut impl Read, buffer: &mut [u8]) -> usize
-    ensures { result ≤ length buffer.new }
-{
-    let mut done = 0;
-    while done < buffer.len() {
-        match file.read(&mut buffer[done..]) {
-            Ok(0) | Err(_) => break,
-            Ok(n) => done += n,
-        }
-    }
-    done
 }
 
 // Why one more read fails: at the end of a file it does not.

@@ -6,29 +6,15 @@
 mod case;
 mod text;
 
-ghost use Rattle.std.specs.Prelude.{◌<◌, ◌≤◌, length, IfOk};
+ghost use Rattle.std.specs.Prelude.{◌<◌, length, IfOk};
 
 use case::with_book;
+use input::read_full;
 use std::io;
-use std::io::Read;
 use text::name_end;
 
 // Of the input, the first 65,536 bytes are read.
 const MOST: usize = 65536;
-
-// Reads until the buffer is full, the input ends or a read fails, and answers how many bytes stand at its start.
-fn read_full(input: &mut impl Read, buffer: &mut [u8]) -> usize
-    ensures { result ≤ length buffer.new }
-{
-    let mut done = 0;
-    while done < buffer.len() {
-        match input.read(&mut buffer[done..]) {
-            Ok(0) | Err(_) => break,
-            Ok(n) => done += n,
-        }
-    }
-    done
-}
 
 fn main(rt: HostRuntime) -> io::Result<()> {
     let mut text = [0u8; MOST];

@@ -18,9 +18,9 @@ pub fn refusal(number: u8) -> Text
 }
 
 // The line of one procedure, behind the lines before it.
-fn line(text: Text, p: u8, parameters: u8, locals: u8, res: u8) -> Text
+fn line(text: Text, p: u8, parameters: u8, locals: u8, set: u8) -> Text
     requires { text.len + line_bytes ≤ room }
-    ensures { Grown text.bytes text.len (line_of p parameters locals res) line_bytes result.bytes result.len }
+    ensures { Grown text.bytes text.len (line_of p parameters locals set) line_bytes result.bytes result.len }
 {
     text.put_number(p)
         .put(b' ')
@@ -28,7 +28,7 @@ fn line(text: Text, p: u8, parameters: u8, locals: u8, res: u8) -> Text
         .put(b' ')
         .put_number(locals)
         .put(b' ')
-        .put_number(res)
+        .put_number(set)
         .put(b'\n')
 }
 

@@ -86,7 +86,7 @@ asked_placed {b} 𝓛 walks σ = walked_asked (Placed (size b)) walks b σ (λ p
 pub rows_kept : {b : Book} → Laid b → (walks : ℕ → Bool) (σ τ : List ℕ) (p : ℕ) → walks p ≡ false →
     (k : ℕ) → row_of (length b) b p ≤ k → k < row_of (length b) b (suc p) → at (grow τ (asked walks b σ)) k ≡ at τ k
 rows_kept {b} 𝓛 walks σ τ p w k f t =
-    grow_other τ k
+    grow_other k τ
     (walked_asked (λ d. k ≢ d.place) walks b σ λ r q e h.
     all_mono (λ d o. own_apart b p r k d.place (at_exists b r e) (other r h) f t o) (part_own 𝓛 r q e σ))
   where

@@ -120,13 +120,10 @@ grow_met σ e (also {a = d} {s = ds} p h) =
     (grow_met (add σ d) (length-set σ d.place (union (at σ d.place) d.needed) ∙ e) h)
 
 -- Needs at other places leave a place as it was.
-other_kept : (k : ℕ) (σ : List ℕ) {ds : List (Need ℕ)} → All (λ d. k ≢ d.place) ds → at (grow σ ds) k ≡ at σ k
+pub grow_other : (k : ℕ) (σ : List ℕ) {ds : List (Need ℕ)} → All (λ d. k ≢ d.place) ds → at (grow σ ds) k ≡ at σ k
 unfolding grow
-other_kept k σ done = refl
-other_kept k σ (also {a = d} n h) = other_kept k (add σ d) h ∙ at_add_other σ d k n
-
-pub grow_other : (σ : List ℕ) {ds : List (Need ℕ)} (k : ℕ) → All (λ d. k ≢ d.place) ds → at (grow σ ds) k ≡ at σ k
-grow_other σ k h = other_kept k σ h
+grow_other k σ done = refl
+grow_other k σ (also {a = d} n h) = grow_other k (add σ d) h ∙ at_add_other σ d k n
 
 pub grow_least : {τ σ : List ℕ} {ds : List (Need ℕ)} → Below σ τ → All (Met τ) ds → Below (grow σ ds) τ
 unfolding grow

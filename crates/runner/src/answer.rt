@@ -11,12 +11,12 @@ pub const OUT_OF_STEPS: u64 = 4;
 
 pub const TOO_DEEP: u64 = 5;
 
-// A result (a value, or a place) and the steps left.
-pub fn yields(res: u32, left: u32) -> u64
+// A value and the steps left.
+pub fn yields(value: u32, left: u32) -> u64
     requires { left ≤ 1000000 }
-    ensures { Yields res left result }
+    ensures { Yields value left result }
 {
-    (res as u64) + (left as u64) * 0x1_0000_0000
+    (value as u64) + (left as u64) * 0x1_0000_0000
 }
 
 // An ending and the steps left.
