@@ -9,6 +9,7 @@ use native.Mathlib.Omega.{arith}
 use borrow.Author.Tests.{le-leb, leb-true}
 use lib.Dec.{leb}
 use lib.ListN.{length, get_or}
+use Rattle.std.specs.Prelude.{Some, None}
 use Rattle.meaning.specs.Lists.{fold, every}
 use Rattle.meaning.proofs.Lists.{both, both_left, both_right, every_sound}
 use Rattle.audit.specs.Decimal.{most_digits, is_digit, digits_to, value_to, is_number, ReadsNumber}
@@ -40,22 +41,12 @@ upto_room {i = i} u h =
     let p : 10 ^ i ≤ 10 ^ 17 = pow-le-pow_right (omega arith) {i = i} {j = 17} below in
     omega (arith, u.small)
 
-pub upto_all : {s : List ℕ} {i v : ℕ} → i ≡ length s → 1 ≤ length s → length s ≤ most_digits → Upto s i v → ReadsNumber s true v
+pub upto_all : {s : List ℕ} {i v : ℕ} → i ≡ length s → 1 ≤ length s → length s ≤ most_digits → Upto s i v → ReadsNumber s (Some v)
 unfolding is_number
 upto_all {s} {i} {v} e h k u =
     record {
       known_is = sym (both (le-leb 1 (length s) h) (both (le-leb (length s) most_digits k) (ap (digits_to s) (sym e) ∙ u.digits)));
-      value_is = λ z. u.value ∙ ap (value_to s) e;
-      none_is = λ z. let y : ◌≡◌ {A = ℕ} 0 1 = cc in absurd (omega arith);
-    }
-
--- What is no number: its length is not right, or a byte is no digit.
-none_read : {s : List ℕ} {known : Bool} {value : ℕ} → is_number s ≡ false → (known ≡ false) × (value ≡ 0) → ReadsNumber s known value
-none_read e h =
-    record {
-      known_is = h.0 ∙ sym e;
-      value_is = λ z. let h0 = h.0 in let y : ◌≡◌ {A = ℕ} 0 1 = cc in absurd (omega arith);
-      none_is = λ z. h.1;
+      value_is = u.value ∙ ap (value_to s) e;
     }
 
 -- A test that would give something false is false.
@@ -63,16 +54,17 @@ refuted : (t : Bool) → (t ≡ true → ⊥) → t ≡ false
 refuted true h = absurd (h refl)
 refuted false h = refl
 
-pub none_short : {s : List ℕ} {known : Bool} {value : ℕ} → length s < 1 → (known ≡ false) × (value ≡ 0) → ReadsNumber s known value
-unfolding is_number
-none_short {s} h r = none_read (refuted (is_number s) λ t. let z = leb-true 1 (length s) (both_left _ _ t) in omega arith) r
+-- What is no number: its length is not right, or a byte is no digit.
+none_read : {s : List ℕ} → (is_number s ≡ true → ⊥) → ReadsNumber s None
+none_read {s} h = record { known_is = sym (refuted (is_number s) h); value_is = tt }
 
-pub none_long : {s : List ℕ} {known : Bool} {value : ℕ} → most_digits < length s → (known ≡ false) × (value ≡ 0) → ReadsNumber s known value
+pub none_short : {s : List ℕ} → length s ≡ 0 → ReadsNumber s None
 unfolding is_number
-none_long {s} h r =
-    none_read
-    (refuted (is_number s) λ t. let z = leb-true (length s) most_digits (both_left _ _ (both_right (leb 1 (length s)) _ t)) in omega arith)
-    r
+none_short {s} h = none_read λ t. let z = leb-true 1 (length s) (both_left _ _ t) in omega arith
+
+pub none_long : {s : List ℕ} → most_digits < length s → ReadsNumber s None
+unfolding is_number
+none_long {s} h = none_read λ t. let z = leb-true (length s) most_digits (both_left _ _ (both_right (leb 1 (length s)) _ t)) in omega arith
 
 -- A byte of a number is a digit.
 digit_at : (s : List ℕ) → is_number s ≡ true → (i : ℕ) → i < length s → is_digit (get_or s i 0) ≡ true
@@ -80,14 +72,8 @@ unfolding is_number digits_to
 digit_at s t i h =
     every_sound (length s) _ (both_right (leb (length s) most_digits) _ (both_right (leb 1 (length s)) _ t)) i h
 
-pub none_low : {s : List ℕ} {known : Bool} {value : ℕ} (i : ℕ) → i < length s → get_or s i 0 < 48 →
-    (known ≡ false) × (value ≡ 0) → ReadsNumber s known value
-none_low {s} i h k r =
-    none_read (refuted (is_number s) λ t. let z = leb-true 48 (get_or s i 0) (both_left _ _ (digit_at s t i h)) in omega arith) r
+pub none_low : {s : List ℕ} (i : ℕ) → i < length s → get_or s i 0 < 48 → ReadsNumber s None
+none_low {s} i h k = none_read λ t. let z = leb-true 48 (get_or s i 0) (both_left _ _ (digit_at s t i h)) in omega arith
 
-pub none_high : {s : List ℕ} {known : Bool} {value : ℕ} (i : ℕ) → i < length s → 57 < get_or s i 0 →
-    (known ≡ false) × (value ≡ 0) → ReadsNumber s known value
-none_high {s} i h k r =
-    none_read
-    (refuted (is_number s) λ t. let z = leb-true (get_or s i 0) 57 (both_right (leb 48 (get_or s i 0)) _ (digit_at s t i h)) in omega arith)
-    r
+pub none_high : {s : List ℕ} (i : ℕ) → i < length s → 57 < get_or s i 0 → ReadsNumber s None
+none_high {s} i h k = none_read λ t. let z = leb-true (get_or s i 0) 57 (both_right (leb 48 (get_or s i 0)) _ (digit_at s t i h)) in omega arith

@@ -1,21 +1,18 @@
 -- The summary that the finder answers lies within the buffer.
-use mathlib.Core.Path.{◌≡◌, refl, ◌∙◌}
+use mathlib.Core.Path.{◌≡◌, refl}
 use mathlib.Core.List.{List}
 use mathlib.Core.Logic.{inl, inr}
 use Prim.Native.Nat.{ℕ, ◌≤◌}
 use native.Mathlib.Omega.{arith}
 use borrow.Author.Tests.{leb-true}
 use lib.Dec.{leb}
-use lib.ListN.{length, take}
-use lib.Seq.{length-take-le}
+use lib.ListN.{length}
 use Rattle.meaning.specs.Tree.{Book}
 use Rattle.meaning.specs.Reading.{Reading, refused, readable, read}
 use Rattle.meaning.specs.Flow.{size}
 use Rattle.meaning.specs.Answers.{find_answer, find_book, no_find}
 use Rattle.meaning.specs.Entries.{FindsIn}
 use Rattle.meaning.proofs.Lists.{Tested, holds_or_fails}
-use Rattle.flow.specs.Settling.{Sized}
-use Rattle.flow.proofs.Answers.{found_here}
 
 book_fits : (b : Book) (buffer : List ℕ) → (find_book b buffer).size ≤ length buffer
 unfolding find_book no_find
@@ -36,10 +33,3 @@ answer_fits book buffer = go (read book) refl
 pub find_fits : {book buffer after : List ℕ} {refusal places rounds : ℕ} → length after ≡ length buffer →
     FindsIn book buffer refusal places rounds after → places ≤ length after
 find_fits {book} {buffer} h f = omega (arith, f.size_is, answer_fits book buffer)
-
--- The book is readable where a summary is found, and what is lent of the buffer has its size.
-pub found_sized : {book buffer after : List ℕ} {refusal places rounds : ℕ} → length after ≡ length buffer →
-    FindsIn book buffer refusal places rounds after → refusal ≡ 0 → Sized book (length (take places after))
-found_sized {book} {buffer} {after} {refusal} {places} h f z =
-    let s = found_here f z in
-    record { book = s.book; size_is = length-take-le places after (find_fits h f) ∙ s.size_is }

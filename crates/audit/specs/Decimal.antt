@@ -1,5 +1,5 @@
 -- A number in decimal, as an argument gives it: 1 to 18 digits and nothing else.
-use Rattle.std.specs.Prelude.{◌≡◌, Bool, true, false, ◌&&◌, List, ℕ, ◌+◌, ◌-◌, ◌*◌, leb, length, get_or}
+use Rattle.std.specs.Prelude.{◌≡◌, Bool, ◌&&◌, List, ℕ, ◌+◌, ◌-◌, ◌*◌, leb, length, get_or, Option, is_some, IfSome}
 use Rattle.meaning.specs.Lists.{fold, every}
 
 -- So many digits fit a number of 64 bits.
@@ -20,8 +20,7 @@ value_to s n = fold n (λ i v. 10 * v + (get_or s i 0 - 48)) 0
 unfoldable pub is_number : List ℕ → Bool
 is_number s = leb 1 (length s) && (leb (length s) most_digits && digits_to s (length s))
 
--- What reading a number answers: whether it is one, and which; 0 where it is none.
-pub record ReadsNumber (s : List ℕ) (known : Bool) (value : ℕ) : Type 0 where
-  pub known_is : known ≡ is_number s
-  pub value_is : known ≡ true → value ≡ value_to s (length s)
-  pub none_is : known ≡ false → value ≡ 0
+-- What reading a number answers: the number, where the text is one.
+pub record ReadsNumber (s : List ℕ) (answer : Option ℕ) : Type 0 where
+  pub known_is : is_some answer ≡ is_number s
+  pub value_is : IfSome answer (λ value. value ≡ value_to s (length s))

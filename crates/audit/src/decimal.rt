@@ -1,51 +1,22 @@
 // Numbers in decimal, without a sign.
-ghost use Rattle.std.specs.Prelude.{◌≡◌, false};
 ghost use Rattle.audit.specs.Decimal.{ReadsNumber};
 
-#[derive(Drop)]
-pub struct Number {
-    pub known: bool,
-    pub value: u64,
-}
+// So many digits fit a number of 64 bits.
+const MOST_DIGITS: usize = 18;
 
-pub fn none() -> Number
-    ensures { (result.known ≡ false) × (result.value ≡ 0) }
+// The number that a text of 1 to 18 digits says. `FromStr` takes a sign too (kept: with a test of each byte beside it, it is no plainer).
+pub fn parse(text: &[u8]) -> Option<u64>
+    ensures { ReadsNumber text.now result }
 {
-    Number {
-        known: false,
-        value: 0,
+    if text.is_empty() || MOST_DIGITS < text.len() {
+        return None;
     }
-}
-
-// The digit 9.
-const NINE: u8 = 57;
-
-// The number that a text of 1 to 18 digits says.
-pub fn parse(text: &[u8]) -> Number
-    ensures { ReadsNumber text.now result.known result.value }
-{
-    if text.len() < 1 {
-        return none();
+    let mut value = 0;
+    for &b in text {
+        let b'0'..=b'9' = b else {
+            return None;
+        };
+        value = 10 * value + u64::from(b - b'0');
     }
-    if 18 < text.len() {
-        return none();
-    }
-    let mut value: u64 = 0;
-    for i in 0..text.len() {
-        let b = text[i];
-        if b < 48 {
-            return none();
-        }
-        if NINE < b {
-            return none();
-        }
-        value = 10 * value + wide(b - 48);
-    }
-    Number { known: true, value }
-}
-
-fn wide(b: u8) -> u64
-    ensures { result ≡ b }
-{
-    b as u64
+    Some(value)
 }

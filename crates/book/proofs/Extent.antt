@@ -3,7 +3,7 @@ use mathlib.Core.Path.{◌≡◌, refl}
 use mathlib.Core.Bool.{Bool, true, false}
 use mathlib.Core.List.{List, [], ◌∷◌}
 use mathlib.Core.Option.{Option, some, none}
-use Prim.Native.Nat.{ℕ, zero, suc, ◌+◌, ◌≤◌}
+use Prim.Native.Nat.{ℕ, zero, suc, ◌+◌, ◌≤◌, ◌<◌}
 use native.Mathlib.Omega.{arith}
 use lib.Dec.{eqb}
 use lib.ListN.{length, get_or, drop, get_elem?, length-drop}
@@ -12,10 +12,8 @@ use Rattle.meaning.specs.Tree.{operation, then, first}
 use Rattle.meaning.specs.Limits.{most_depth}
 use Rattle.meaning.specs.Reading
 use Rattle.meaning.specs.Reading.{Parsed, got, bad, more, next, passing, and_then, Scope, ExprForm, CmdForm, LastForm, expr, expr_of, arguments, constant_at, operations, expr_form, until, run, command, cmd_of, cmd_form, closes, last_form, last_of, closing, body, left_over}
-use Rattle.book.specs.declared.taken.Taken.{Taken}
-use Rattle.book.specs.declared.taken.Taken.TheVariants.{Bytes}
-use Rattle.book.specs.Taken.{taken, span, loops_taken}
-use Rattle.book.proofs.Parts.{Got, was_got}
+use Rattle.book.specs.Taken.{Taken, Bytes, taken, plus, span, loops_taken}
+use Rattle.book.proofs.Parts.{Got, was_got, was_behind}
 use Rattle.book.specs.Parts.{no_loops, expr_taken, command_taken, ordinaries, ending, ordinaries_taken, run_taken, closer, closer_taken, closing_taken, body_taken}
 
 -- Of m bytes, k before them.
@@ -195,14 +193,22 @@ expr_reach v d s e = reach no_loops (expr v d s) (length s) e (within_expr v d s
 pub expr_span : {t : Taken} (v : Scope) (d : ℕ) (s : List ℕ) → t ≡ expr_taken v d s → span t ≤ length s
 expr_span v d s e = (expr_reach v d s e).spans
 
-pub expr_count : {t : Taken} (v : Scope) (d : ℕ) (s : List ℕ) → t ≡ expr_taken v d s → loops_taken t ≤ length s
-expr_count v d s e = (expr_reach v d s e).counts
+pub expr_count : {t : Taken} (v : Scope) (d : ℕ) (s : List ℕ) → t ≡ expr_taken v d s → loops_taken t ≡ 0
+unfolding taken
+expr_count v d s e = go (expr v d s) e
+  where
+    go : {t : Taken} (p : Parsed Expr) → t ≡ taken no_loops p → loops_taken t ≡ 0
+    go (got a n) e = rw e refl
+    go (bad r q) e = rw e refl
 
 command_reach : {t : Taken} (v : Scope) (d : ℕ) (s : List ℕ) → t ≡ command_taken v d s → Reach t (length s)
 command_reach v d s e = reach loops (command v d s) (length s) e (within_command v d s)
 
 pub command_span : {t : Taken} (v : Scope) (d : ℕ) (s : List ℕ) → t ≡ command_taken v d s → span t ≤ length s
 command_span v d s e = (command_reach v d s e).spans
+
+pub command_count : {t : Taken} (v : Scope) (d : ℕ) (s : List ℕ) → t ≡ command_taken v d s → loops_taken t ≤ length s
+command_count v d s e = (command_reach v d s e).counts
 
 run_reach : {t : Taken} (v : Scope) (d : ℕ) (s : List ℕ) → t ≡ run_taken v d s → Reach t (length s)
 run_reach v d s e = reach loops_in (run (command v d) s) (length s) e (within_run (command v d) (within_command v d) s)
@@ -216,11 +222,13 @@ run_count v d s e = (run_reach v d s e).counts
 ordinaries_reach : {t : Taken} (closed : Bool) (v : Scope) (d : ℕ) (s : List ℕ) → t ≡ ordinaries_taken closed v d s → Reach t (length s)
 ordinaries_reach closed v d s e = reach loops_in _ (length s) e (within_ordinaries closed v d (length s) s)
 
-pub ordinaries_span : {t : Taken} (closed : Bool) (v : Scope) (d : ℕ) (s : List ℕ) → t ≡ ordinaries_taken closed v d s → span t ≤ length s
-ordinaries_span closed v d s e = (ordinaries_reach closed v d s e).spans
+-- Of m bytes, n that were read, with l loops.
+pub record Fits (n l m : ℕ) : Type 0 where
+  pub bytes : n ≤ m
+  pub loops : l ≤ m
 
-pub ordinaries_count : {t : Taken} (closed : Bool) (v : Scope) (d : ℕ) (s : List ℕ) → t ≡ ordinaries_taken closed v d s → loops_taken t ≤ length s
-ordinaries_count closed v d s e = (ordinaries_reach closed v d s e).counts
+pub ordinaries_fits : {n l : ℕ} (closed : Bool) (v : Scope) (d : ℕ) (s : List ℕ) → Bytes n l ≡ ordinaries_taken closed v d s → Fits n l (length s)
+ordinaries_fits closed v d s e = let r = ordinaries_reach closed v d s e in record { bytes = r.spans; loops = r.counts }
 
 closing_reach : {t : Taken} (v : Scope) (d : ℕ) (s : List ℕ) → t ≡ closing_taken v d s → Reach t (length s)
 closing_reach v d s e = reach loops_of (closing v d s) (length s) e (within_closing v d s)
@@ -272,14 +280,16 @@ some_command v (suc d) (k ∷ s) = go (cmd_form k)
     go Reading.a_while = some_more _
     go Reading.no_command = tt
 
--- What a command that was read takes.
-pub record Took (n l m : ℕ) : Type 0 where
-  pub some : 1 ≤ n
-  pub fits : n ≤ m
-  pub few : l ≤ n
+-- What a command that was read takes, behind n bytes with l loops.
+pub record Took (n l m i j : ℕ) : Type 0 where
+  pub some : n < i
+  pub fits : i ≤ n + m
+  pub few : n + j ≤ l + i
 
-pub command_took : {t : Taken} {n l : ℕ} (v : Scope) (d : ℕ) (s : List ℕ) → t ≡ Bytes n l → t ≡ command_taken v d s → Took n l (length s)
-command_took {t} {n} {l} v d s e h =
-    let g : Got loops (command v d s) n l = was_got loops (command v d s) e h in
-    let w : Within loops (length s) 0 (got g.tree n) = rw g.is at (within_command v d s) in
-    record { some = rw g.is at (some_command v d s); fits = w.0; few = omega (arith, w.1, g.count) }
+pub command_took : {t : Taken} {n l i j : ℕ} (v : Scope) (d : ℕ) (s : List ℕ) → t ≡ command_taken v d s → Bytes i j ≡ plus n l t → Took n l (length s) i j
+command_took {t} {n} {l} v d s h e =
+    let b = was_behind n l t e in
+    let g : Got loops (command v d s) b.bytes b.loops = was_got loops (command v d s) b.is h in
+    let w : Within loops (length s) 0 (got g.tree b.bytes) = rw g.is at (within_command v d s) in
+    let some : 1 ≤ b.bytes = rw g.is at (some_command v d s) in
+    record { some = omega (arith, b.all_bytes); fits = omega (arith, w.0, b.all_bytes); few = omega (arith, w.1, g.count, b.all_bytes, b.all_loops) }

@@ -7,9 +7,12 @@ use lib.ListN.{length, take, drop}
 use lib.Seq.{drop-drop}
 use borrow.Author.Rules.{part_to_end}
 use Rattle.meaning.specs.Reading.{Parsed, got, bad, more, and_then}
-use Rattle.book.specs.declared.taken.Taken.{Taken}
-use Rattle.book.specs.declared.taken.Taken.TheVariants.{Bytes, Fault}
-use Rattle.book.specs.Taken.{taken, plus, span, loops_taken}
+use Rattle.std.specs.Prelude.{Result, Err}
+use Rattle.std.specs.Result.{IsErrAnd}
+use Rattle.std.proofs.lemmas.Result.{err_from_is_err_and}
+use Rattle.book.specs.declared.taken.Taken as T
+use Rattle.book.specs.declared.fault.Fault as F
+use Rattle.book.specs.Taken.{told, Taken, Bytes, Fault, taken, plus, span, loops_taken}
 
 -- The part of a slice from a on, as the code's `&s[a..]` is known.
 abbrev pub from : ℕ → List ℕ → List ℕ
@@ -18,20 +21,39 @@ from a s = take (length s - a) (drop a s)
 pub from_drop : (a : ℕ) (s : List ℕ) → from a s ≡ drop a s
 from_drop a s = part_to_end s a
 
-pub plus_bytes : {t : Taken} {m k : ℕ} (n l : ℕ) → t ≡ Bytes m k → Bytes (n + m) (l + k) ≡ plus n l t
-plus_bytes n l e = rw e
-
 pub plus_fault : {t : Taken} {r p : ℕ} (n l : ℕ) → t ≡ Fault r p → Fault r (n + p) ≡ plus n l t
 plus_fault n l e = rw e
 
-pub span_bytes : {t : Taken} {m k : ℕ} → t ≡ Bytes m k → span t ≡ m
-span_bytes e = rw e
+-- What an answer tells that is a fault.
+pub told_err : (f : F.Fault) (r : Result T.Taken F.Fault) → IsErrAnd r (λ e. e ≡ f) → told r ≡ told (Err f)
+told_err f r h = let p = err_from_is_err_and r h in rw (p.1, p.2) refl
 
-pub span_fault : {t : Taken} {r p : ℕ} → t ≡ Fault r p → span t ≡ p
-span_fault e = rw e
+-- What an answer behind n bytes with l loops tells of the part.
+pub record Behind (n l : ℕ) (t : Taken) (m k : ℕ) : Type 0 where
+  pub bytes : ℕ
+  pub loops : ℕ
+  pub is : t ≡ Bytes bytes loops
+  pub all_bytes : m ≡ n + bytes
+  pub all_loops : k ≡ l + loops
 
-pub loops_bytes : {t : Taken} {m k : ℕ} → t ≡ Bytes m k → loops_taken t ≡ k
-loops_bytes e = rw e
+pub was_behind : (n l : ℕ) (t : Taken) {m k : ℕ} → Bytes m k ≡ plus n l t → Behind n l t m k
+was_behind n l (Bytes i j) e = record { bytes = i; loops = j; is = refl; all_bytes = cc; all_loops = cc }
+was_behind n l (Fault r p) e = let z : ◌≡◌ {A = ℕ} 0 1 = cc in absurd (omega arith)
+
+pub record Stopped (n : ℕ) (t : Taken) (r q : ℕ) : Type 0 where
+  pub place : ℕ
+  pub is : t ≡ Fault r place
+  pub all_places : q ≡ n + place
+
+pub was_stopped : (n l : ℕ) (t : Taken) {r q : ℕ} → Fault r q ≡ plus n l t → Stopped n t r q
+was_stopped n l (Bytes i j) e = let z : ◌≡◌ {A = ℕ} 0 1 = cc in absurd (omega arith)
+was_stopped n l (Fault x p) e = record { place = p; is = cc; all_places = cc }
+
+pub span_plus : (n l : ℕ) (t : Taken) {m k : ℕ} → Bytes m k ≡ plus n l t → m ≡ n + span t
+span_plus n l t e = let b = was_behind n l t e in rw b.is b.all_bytes
+
+pub loops_plus : (n l : ℕ) (t : Taken) {m k : ℕ} → Bytes m k ≡ plus n l t → k ≡ l + loops_taken t
+loops_plus n l t e = let b = was_behind n l t e in rw b.is b.all_loops
 
 pub plus_plus : (n l m k : ℕ) (t : Taken) → plus n l (plus m k t) ≡ plus (n + m) (l + k) t
 plus_plus n l m k (Bytes i j) = ap₂ Bytes (omega arith) (omega arith)
@@ -111,12 +133,6 @@ pub plus_onward : (n l : ℕ) (t : Taken) (f g : ℕ → Taken) → ((i : ℕ) �
 plus_onward n l (Bytes m k) f g h = plus_plus n l m k (g m) ∙ ap (plus (n + m) (l + k)) (h m)
 plus_onward n l (Fault r p) f g h = refl
 
-pub onward_bytes : {t : Taken} {m l : ℕ} (f : ℕ → Taken) → t ≡ Bytes m l → onward t f ≡ plus m l (f m)
-onward_bytes f e = rw e
-
-pub onward_fault : {t : Taken} {r q : ℕ} (f : ℕ → Taken) → t ≡ Fault r q → onward t f ≡ t
-onward_fault f e = rw e
-
 -- Behind two bytes.
 pub two_bytes : {A B : Type 0} (f : A → ℕ) (g : B → ℕ) (p : Parsed A) (q : Parsed B) → taken f p ≡ taken g q → taken g (more 2 q) ≡ taken f (more 1 (more 1 p))
 two_bytes f g p q e = rw (taken_more g 2 q, taken_more f 1 (more 1 p), taken_more f 1 p, e) (sym (plus_plus 1 0 1 0 (taken g q)))
@@ -127,6 +143,10 @@ pub behind : {A B : Type 0} (one : A → ℕ) (all : B → ℕ) (k : ℕ) (s : L
 behind one all k s p g {n} h =
     taken_more all k _ ∙ ap (plus k 0) (goes_on one all (drop k s) p g h)
     ∙ rw drop-drop (plus_plus k 0 n 0 (taken all (g h.tree (drop (k + n) s))))
+
+pub goes_behind : {A B : Type 0} (one : A → ℕ) (all : B → ℕ) (k : ℕ) (s : List ℕ) (p : Parsed A) (g : A → List ℕ → Parsed B) {m n l : ℕ} → m ≡ k + n → (h : Got one p n l) →
+    taken all (more k (and_then (drop k s) p g)) ≡ plus m 0 (taken all (g h.tree (drop m s)))
+goes_behind one all k s p g e h = rw e (behind one all k s p g h)
 
 pub stops_behind : {A B : Type 0} (one : A → ℕ) (all : B → ℕ) (k : ℕ) (s : List ℕ) (p : Parsed A) (g : A → List ℕ → Parsed B) {t : Taken} {r q : ℕ} →
     t ≡ Fault r q → t ≡ taken one p → plus k 0 t ≡ taken all (more k (and_then s p g))

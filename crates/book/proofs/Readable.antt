@@ -5,15 +5,11 @@ use mathlib.Core.Option.{some}
 use Prim.Native.Nat.{ℕ, ◌≤◌, ◌<◌}
 use lib.ListN.{length, get_or, get_elem?}
 use Rattle.meaning.specs.Limits.{most_bytes, most_procedures, most_parameters, most_locals, most_loops}
-use Rattle.meaning.specs.Tree.{Procedure, Book}
-use Rattle.meaning.specs.Reading.{Scope, entry, entries, arities, scope, procedures, contents_end, loops_all, readable, read}
+use Rattle.meaning.specs.Tree.{Procedure}
+use Rattle.meaning.specs.Reading.{Scope, entry, entries, arities, scope, procedures, contents_end, loops_all}
 use Rattle.meaning.proofs.Places.{row_of}
+use Rattle.book.specs.Here.{BookHere}
 use Rattle.book.proofs.Text.{ClosingHere}
-
--- The bytes are readable, as this book.
-pub record BookHere (bytes : List ℕ) : Type 0 where
-  pub book : Book
-  pub is : read bytes ≡ readable book
 
 -- What the body of procedure p may name.
 abbrev pub scope_of : List ℕ → ℕ → Scope

@@ -14,7 +14,8 @@ use Rattle.meaning.proofs.Lists.{both_left, both_right, length_each, get_or_each
 use Rattle.meaning.proofs.Pairs.{Pairs, all_at}
 use Rattle.meaning.proofs.Readable.{Readable, Counted, reads, length_read}
 use Rattle.meaning.proofs.Places.{Laid, laid, length_placed, few_places}
-use Rattle.book.proofs.Readable.{BookHere, BookFacts, ProcedureView}
+use Rattle.book.specs.Here.{BookHere}
+use Rattle.book.proofs.Readable.{BookFacts, ProcedureView}
 use Rattle.book.proofs.Sound.Parts.{gave}
 use Rattle.book.proofs.Sound.Bodies.{ReadBody, BodyHere, bodies_sound, placed_bodies}
 pub mod Parts

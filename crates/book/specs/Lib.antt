@@ -1,4 +1,6 @@
+pub mod Here
 pub mod Numbers
+pub mod Faults
 pub mod Taken
 pub mod Parts
 pub mod Contents

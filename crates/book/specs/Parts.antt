@@ -1,13 +1,17 @@
 -- What the code answers for each kind of part, by the definition.
 use Rattle.std.specs.Prelude.{Bool, true, false, List, ℕ, eqb, length, drop}
 use Rattle.meaning.specs.Tree.{Cmd, Run, Closing, stop, then, loops, loops_in, loops_of}
-use Rattle.meaning.specs.Reading.{Parsed, got, more, next, Scope, ExprForm, CmdForm, LastForm, expr, expr_of, arguments, until, run, command, cmd_of, closes, last_form, last_of, closing, body}
-use Rattle.book.specs.declared.taken.Taken.{Taken}
-use Rattle.book.specs.Taken.{taken}
+use Rattle.meaning.specs.Reading.{Parsed, got, more, next, Scope, ExprForm, CmdForm, LastForm, expr, expr_of, arguments, until, run, command, cmd_of, entries, arities, closes, last_form, last_of, closing, body}
+use Rattle.book.specs.declared.scope.Scope as S
+use Rattle.book.specs.Taken.{Taken, taken}
 
 -- What a body with so many variables may name, beside procedures with these parameter counts.
 abbrev pub naming : ℕ → List ℕ → Scope
 naming n ar = record { variables = n; arities = ar }
+
+-- What the code's scope names.
+abbrev pub known : S.Scope → Scope
+known s = naming s.variables (arities (entries s.book.now))
 
 -- An expression holds no loop.
 abbrev pub no_loops : {A : Type 0} → A → ℕ

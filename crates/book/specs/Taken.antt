@@ -1,10 +1,21 @@
 -- What the code answers for a part: the definition's result without its tree.
-use Rattle.std.specs.Prelude.{ℕ, ◌+◌}
+use Rattle.std.specs.Prelude.{ℕ, ◌+◌, Result, Ok, Err}
 use Rattle.meaning.specs.Reading.{Parsed, got, bad}
-use Rattle.book.specs.declared.taken.Taken.{Taken}
-use Rattle.book.specs.declared.taken.Taken.TheVariants.{Bytes, Fault}
+use Rattle.book.specs.declared.taken.Taken as T
+use Rattle.book.specs.declared.fault.Fault as F
+use Rattle.book.specs.Faults.{number}
 
--- The bytes and the number of loops, or the fault.
+-- The bytes of a part that was read, and the loops among them; or the reason's number, and the place from the part's start.
+pub data Taken : Type 0 where
+  Bytes : ℕ → ℕ → Taken
+  Fault : ℕ → ℕ → Taken
+
+-- What the code's answer says, in the numbers of the rules.
+abbrev pub told : Result T.Taken F.Fault → Taken
+told (Ok t) = Bytes t.bytes t.loops
+told (Err f) = Fault (number f.reason) f.place
+
+-- The same of the definition's result.
 unfoldable pub taken : {A : Type 0} → (A → ℕ) → Parsed A → Taken
 taken loops (got a n) = Bytes n (loops a)
 taken loops (bad r p) = Fault r p

@@ -7,27 +7,26 @@ ghost use Rattle.book.specs.Numbers.{four_of};
 pub fn number(byte: u8) -> usize
     ensures { (result ≡ byte) × (result < 256) }
 {
-    byte as usize
+    usize::from(byte)
 }
 
 // The same as a part of a value.
 pub fn wide(byte: u8) -> u32
     ensures { (result ≡ byte) × (result < 256) }
 {
-    byte as u32
+    u32::from(byte)
 }
 
 pub fn pair(book: &[u8], at: usize) -> usize
     requires { at + 1 < length book.now }
     ensures { result ≡ pair_of book.now at }
 {
-    number(book[at]) + 256 * number(book[at + 1])
+    usize::from(u16::from_le_bytes([book[at], book[at + 1]]))
 }
 
 pub fn constant(book: &[u8], at: usize) -> u32
     requires { at + 3 < length book.now }
     ensures { result ≡ four_of book.now at }
 {
-    wide(book[at])
-        + 256 * (wide(book[at + 1]) + 256 * (wide(book[at + 2]) + 256 * wide(book[at + 3])))
+    u32::from_le_bytes([book[at], book[at + 1], book[at + 2], book[at + 3]])
 }

@@ -1,74 +1,52 @@
 // Expressions. Each is read from the start of its part; `depth` levels of depth are left for it.
 ghost use Rattle.std.specs.Prelude.{◌≡◌, [], ◌≤◌, length};
 ghost use Rattle.meaning.specs.Reading.{a_constant, a_variable, an_operation, a_call};
-ghost use Rattle.book.specs.Parts.{naming, expr_taken, expr_as, arguments_taken};
+ghost use Rattle.book.specs.Taken.{told};
+ghost use Rattle.book.specs.Parts.{naming, known, expr_taken, expr_as, arguments_taken};
 
 use crate::bytes::number;
-use crate::taken::{
-    ENDED_EARLY, NO_OPERATION, NO_PROCEDURE, NO_VARIABLE, TOO_DEEP, Taken, UNKNOWN_CODE,
-};
+use crate::entry::parameters;
+use crate::fault::{Fault, Reason};
+use crate::scope::Scope;
+use crate::taken::{Taken, byte};
 
 // 10 and four bytes.
-fn constant(part: &[u8]) -> Taken
+fn constant(part: &[u8]) -> Result<Taken, Fault>
     requires { 1 ≤ length part.now }
-    ensures { result ≡ expr_as a_constant (naming 0 []) 0 part.now }
+    ensures { told result ≡ expr_as a_constant (naming 0 []) 0 part.now }
 {
     if part.len() < 5 {
-        Taken::Fault {
-            reason: ENDED_EARLY,
-            place: part.len(),
-        }
-    } else {
-        Taken::Bytes { taken: 5, loops: 0 }
+        return Err(Reason::EndedEarly.at(part.len()));
     }
+    Ok(Taken::bytes(5))
 }
 
 // 11 x.
-fn variable(part: &[u8], variables: usize) -> Taken
-    requires { 1 ≤ length part.now }
-    ensures { result ≡ expr_as a_variable (naming variables []) 0 part.now }
+fn variable(part: &[u8], variables: usize) -> Result<Taken, Fault>
+    ensures { told result ≡ expr_as a_variable (naming variables []) 0 part.now }
 {
-    if part.len() < 2 {
-        return Taken::Fault {
-            reason: ENDED_EARLY,
-            place: 1,
-        };
-    }
-    if number(part[1]) < variables {
-        Taken::Bytes { taken: 2, loops: 0 }
+    let x = byte(part, 1)?;
+    if number(x) < variables {
+        Ok(Taken::bytes(2))
     } else {
-        Taken::Fault {
-            reason: NO_VARIABLE,
-            place: 1,
-        }
+        Err(Reason::NoVariable.at(1))
     }
 }
 
 #[cycle(expressions)]
-pub fn expr(part: &[u8], variables: usize, arities: &[u8], depth: usize) -> Taken
-    ensures { result ≡ expr_taken (naming variables arities.now) depth part.now }
+pub fn expr(part: &[u8], scope: &Scope, depth: usize) -> Result<Taken, Fault>
+    ensures { told result ≡ expr_taken (known scope.now) depth part.now }
 {
-    if part.len() == 0 {
-        return Taken::Fault {
-            reason: ENDED_EARLY,
-            place: 0,
-        };
-    }
+    let code = byte(part, 0)?;
     if depth == 0 {
-        return Taken::Fault {
-            reason: TOO_DEEP,
-            place: 0,
-        };
+        return Err(Reason::TooDeep.at(0));
     }
-    match part[0] {
+    match code {
         0x10 => constant(part),
-        0x11 => variable(part, variables),
-        0x12 => operation(part, variables, arities, depth - 1),
-        0x13 => call(part, variables, arities, depth - 1),
-        _ => Taken::Fault {
-            reason: UNKNOWN_CODE,
-            place: 0,
-        },
+        0x11 => variable(part, scope.variables),
+        0x12 => operation(part, scope, depth - 1),
+        0x13 => call(part, scope, depth - 1),
+        _ => Err(Reason::UnknownCode.at(0)),
     }
 }
 
@@ -77,71 +55,39 @@ const OPERATIONS: u8 = 8;
 
 // 12 o E E, the operands with `depth` levels left.
 #[cycle(expressions)]
-fn operation(part: &[u8], variables: usize, arities: &[u8], depth: usize) -> Taken
-    requires { 1 ≤ length part.now }
-    ensures { result ≡ expr_as an_operation (naming variables arities.now) depth part.now }
+fn operation(part: &[u8], scope: &Scope, depth: usize) -> Result<Taken, Fault>
+    ensures { told result ≡ expr_as an_operation (known scope.now) depth part.now }
 {
-    if part.len() < 2 {
-        return Taken::Fault {
-            reason: ENDED_EARLY,
-            place: 1,
-        };
-    }
-    if part[1] < OPERATIONS {
-        arguments(part, 2, variables, arities, depth)
+    let o = byte(part, 1)?;
+    if o < OPERATIONS {
+        arguments(part, 2, scope, depth)
     } else {
-        Taken::Fault {
-            reason: NO_OPERATION,
-            place: 1,
-        }
+        Err(Reason::NoOperation.at(1))
     }
 }
 
 // 13 p E.., the arguments with `depth` levels left.
 #[cycle(expressions)]
-fn call(part: &[u8], variables: usize, arities: &[u8], depth: usize) -> Taken
-    requires { 1 ≤ length part.now }
-    ensures { result ≡ expr_as a_call (naming variables arities.now) depth part.now }
+fn call(part: &[u8], scope: &Scope, depth: usize) -> Result<Taken, Fault>
+    ensures { told result ≡ expr_as a_call (known scope.now) depth part.now }
 {
-    if part.len() < 2 {
-        return Taken::Fault {
-            reason: ENDED_EARLY,
-            place: 1,
-        };
-    }
-    let p = number(part[1]);
-    if p < arities.len() {
-        arguments(part, number(arities[p]), variables, arities, depth)
+    let p = byte(part, 1)?;
+    if p < scope.book[0] {
+        arguments(part, parameters(scope.book, number(p)), scope, depth)
     } else {
-        Taken::Fault {
-            reason: NO_PROCEDURE,
-            place: 1,
-        }
+        Err(Reason::NoProcedure.at(1))
     }
 }
 
 // `count` expressions behind the two bytes of an operation or a call.
 #[cycle(expressions)]
-fn arguments(part: &[u8], count: usize, variables: usize, arities: &[u8], depth: usize) -> Taken
+fn arguments(part: &[u8], count: usize, scope: &Scope, depth: usize) -> Result<Taken, Fault>
     requires { 2 ≤ length part.now }
-    ensures { result ≡ arguments_taken count (naming variables arities.now) depth part.now }
+    ensures { told result ≡ arguments_taken count (known scope.now) depth part.now }
 {
-    let mut at = 2;
-    let mut left = count;
-    while 0 < left {
-        match expr(&part[at..], variables, arities, depth) {
-            Taken::Bytes { taken, loops: _ } => at += taken,
-            Taken::Fault { reason, place } => {
-                return Taken::Fault {
-                    reason,
-                    place: at + place,
-                };
-            }
-        }
-        left -= 1;
+    let mut read = Taken::bytes(2);
+    for _ in 0..count {
+        read = read.then(expr(&part[read.bytes..], scope, depth))?;
     }
-    Taken::Bytes {
-        taken: at,
-        loops: 0,
-    }
+    Ok(read)
 }

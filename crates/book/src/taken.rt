@@ -1,42 +1,47 @@
 // What reading a part of a body came to.
-ghost use Rattle.std.specs.Prelude.{◌≡◌, ◌+◌, ◌<◌, ◌^◌};
-ghost use Rattle.book.specs.Taken.{plus, span, loops_taken};
+ghost use Rattle.std.specs.Prelude.{◌≡◌, ◌+◌, ◌<◌, ◌≤◌, ◌^◌, length, get_or, MatchResult};
+ghost use Rattle.book.specs.Taken.{told, plus, span, loops_taken};
 
+use crate::fault::{Fault, Reason};
+
+// What was read: its bytes, and the loops among them.
+// The bytes come last, so that they lie where a fault's place does: that is quicker.
 #[derive(Clone, Copy)]
-pub enum Taken {
-    // The part was read: its bytes, and the loops among them.
-    Bytes { taken: usize, loops: usize },
-    // The part breaks a rule: the reason, and the place from the part's start.
-    Fault { reason: u8, place: usize },
+pub struct Taken {
+    pub loops: usize,
+    pub bytes: usize,
 }
 
-pub const ENDED_EARLY: u8 = 1;
+impl Taken {
+    // Bytes that hold no loop.
+    pub fn bytes(bytes: usize) -> Taken
+        ensures { result ≡ record { bytes = bytes; loops = 0 } }
+    {
+        Taken { bytes, loops: 0 }
+    }
 
-pub const TOO_DEEP: u8 = 2;
+    // These bytes and the part that was read behind them; a fault there is told from the start of these bytes.
+    pub fn then(self, part: Result<Taken, Fault>) -> Result<Taken, Fault>
+        requires { (self.bytes + span (told part) < 2 ^ 64) × (self.loops + loops_taken (told part) < 2 ^ 64) }
+        ensures { told result ≡ plus self.bytes self.loops (told part) }
+    {
+        match part {
+            Ok(part) => Ok(Taken {
+                bytes: self.bytes + part.bytes,
+                loops: self.loops + part.loops,
+            }),
+            Err(fault) => Err(fault.after(self.bytes)),
+        }
+    }
+}
 
-pub const UNKNOWN_CODE: u8 = 3;
-
-pub const NO_VARIABLE: u8 = 4;
-
-pub const NO_OPERATION: u8 = 5;
-
-pub const NO_PROCEDURE: u8 = 6;
-
-pub const LEFT_OVER: u8 = 7;
-
-// The same, after `bytes` bytes that hold `more` loops.
-pub fn moved(t: Taken, bytes: usize, more: usize) -> Taken
-    requires { (bytes + span t < 2 ^ 64) × (more + loops_taken t < 2 ^ 64) }
-    ensures { result ≡ plus bytes more t }
+// The byte at a place of a part that does not end before it.
+pub fn byte(part: &[u8], place: usize) -> Result<u8, Fault>
+    ensures { MatchResult result (λ b. (place < length part.now) × (b ≡ get_or part.now place 0))
+        (λ f. (length part.now ≤ place) × (f ≡ record { reason = Reason.EndedEarly; place = place })) }
 {
-    match t {
-        Taken::Bytes { taken, loops } => Taken::Bytes {
-            taken: bytes + taken,
-            loops: more + loops,
-        },
-        Taken::Fault { reason, place } => Taken::Fault {
-            reason,
-            place: bytes + place,
-        },
+    match part.get(place) {
+        Some(byte) => Ok(*byte),
+        None => Err(Reason::EndedEarly.at(place)),
     }
 }

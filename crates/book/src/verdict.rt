@@ -1,77 +1,67 @@
 // The verdict on a book, with the reason and the place of a fault.
 ghost use Rattle.std.specs.Prelude.{◌≡◌};
 ghost use Rattle.meaning.specs.Reading.{read};
-ghost use Rattle.book.specs.Verdict.{verdict_of, bodies_verdict, Opened};
+ghost use Rattle.book.specs.declared.verdict.Unreadable.TheVariants.{Body};
+ghost use Rattle.book.specs.Verdict.{told, verdict_of, bodies_verdict, refusal_of, Opened};
 
-use crate::bodies::{Counted, bodies};
+use crate::bodies::bodies;
 use crate::bytes::number;
-use crate::contents::{arities, contents};
+use crate::contents::contents;
+pub use crate::fault::{Fault, Reason};
+use crate::limits::{MOST_BYTES, MOST_LOOPS};
+use refusals::Refusal;
 
-#[derive(Clone, Copy)]
-pub enum Verdict {
-    // The bytes are a book whose summary has this size.
-    Readable {
-        size: usize,
-    },
-    // The refusal's number; for a body that breaks a rule the reason and the place in the book.
-    Refused {
-        number: u8,
-        reason: u8,
-        place: usize,
-    },
+// Why bytes are no book.
+#[derive(Clone, Copy, Debug, PartialEq, Eq)]
+pub enum Unreadable {
+    Length,
+    Contents,
+    Body(Fault),
+    Loops,
 }
 
-pub const MOST_BYTES: usize = 32768;
+impl From<Unreadable> for Refusal {
+    ghost from_gives = { λ u r. r ≡ refusal_of u };
 
-pub const MOST_LOOPS: usize = 64;
+    fn from(why: Unreadable) -> Refusal {
+        match why {
+            Unreadable::Length => Refusal::Length,
+            Unreadable::Contents => Refusal::Contents,
+            Unreadable::Body(_) => Refusal::Body,
+            Unreadable::Loops => Refusal::Loops,
+        }
+    }
+}
 
-fn refused(number: u8) -> Verdict
-    ensures { result ≡ Verdict.Refused number 0 0 }
-{
-    Verdict::Refused {
-        number,
-        reason: 0,
-        place: 0,
+impl From<Fault> for Unreadable {
+    ghost from_gives = { λ f u. u ≡ Body f };
+
+    fn from(fault: Fault) -> Unreadable {
+        Unreadable::Body(fault)
     }
 }
 
 // The bodies and the loops of a book whose contents keep every rule.
-fn judge_bodies(book: &[u8]) -> Verdict
+fn judge_bodies(book: &[u8]) -> Result<usize, Unreadable>
     requires { Opened book.now }
-    ensures { result ≡ bodies_verdict book.now }
+    ensures { told result ≡ bodies_verdict book.now }
 {
-    let count = number(book[0]);
-    let counts = arities(book, count);
-    match bodies(book, &counts[..count]) {
-        Counted::Sets { loops, sets } => {
-            if MOST_LOOPS < loops {
-                refused(4)
-            } else {
-                let size = count + sets;
-                Verdict::Readable { size }
-            }
-        }
-        Counted::Fault { reason, place } => Verdict::Refused {
-            number: 3,
-            reason,
-            place,
-        },
+    let counted = bodies(book)?;
+    if MOST_LOOPS < counted.loops {
+        return Err(Unreadable::Loops);
     }
+    Ok(number(book[0]) + counted.sets)
 }
 
 // Length, contents, bodies and loops are judged in this order.
-pub fn judge(book: &[u8]) -> Verdict
-    ensures { result ≡ verdict_of (read book.now) }
+pub fn judge(book: &[u8]) -> Result<usize, Unreadable>
+    ensures { told result ≡ verdict_of (read book.now) }
 {
-    if book.len() < 1 {
-        return refused(1);
+    if book.is_empty() || MOST_BYTES < book.len() {
+        return Err(Unreadable::Length);
     }
-    if MOST_BYTES < book.len() {
-        return refused(1);
+    if !contents(book) {
+        return Err(Unreadable::Contents);
     }
-    if contents(book) {
-        judge_bodies(book)
-    } else {
-        refused(2)
-    }
+    judge_bodies(book)
 }

@@ -10,7 +10,7 @@ use lib.Bits.{bit_or}
 use Rattle.meaning.specs.Tree.{loops}
 use Rattle.meaning.specs.Sets.{empty, union}
 use Rattle.meaning.specs.Flow.{flow, after, needs, grow}
-use Rattle.meaning.proofs.Sets.{union_empty_l}
+use Rattle.meaning.proofs.Sets.{union_empty_l, union_comm}
 use Rattle.book.proofs.Views.{assign_view}
 use Rattle.book.proofs.Views.Bounds.{expr_spans}
 use Rattle.flow.specs.Rows.{most_variables}
@@ -45,8 +45,8 @@ assign_pre p =
     record { contents = q.ready.contents; w = p.w; narrow = q.ready.narrow; here = (assign_view q.here p.coded.is).given }
 
 pub assign_returns : {b σ sets sets' : List ℕ} {i g y z u m : ℕ} → AssignPre b σ i sets → y ≡ get_or b (i + 1) 0 →
-    ExprAnswer b σ sets (i + 2) z → u ≡ union (set_in z) g → sets' ≡ set sets y u → m ≡ next_in z → AssignPost b σ i sets g sets' m
-assign_returns p k e f n h = assign_post p λ new r w q. rw (n, h) (assign_law q k e.is f)
+    ExprAnswer b σ sets (i + 2) z → u ≡ union g (set_in z) → sets' ≡ set sets y u → m ≡ next_in z → AssignPost b σ i sets g sets' m
+assign_returns {g = g} {z = z} p k e f n h = assign_post p λ new r w q. rw (n, h) (assign_law q k e.is (f ∙ union_comm g (set_in z)))
 
 -- A variable's set is taken as it stands.
 pub assign_copied : {b σ sets sets' : List ℕ} {g i y z : ℕ} → AssignPre b σ i sets → y ≡ get_or b (i + 1) 0 → get_or b (i + 2) 0 ≡ 0x11 →

@@ -6,7 +6,7 @@ use Prim.Native.Nat.{ℕ, suc, ◌+◌, ◌*◌, ◌-◌, ◌≤◌, ◌<◌}
 use native.Mathlib.Omega.{arith}
 use lib.ListN.{length, get_or, take, replicate, get_elem?, length-append, length-replicate, replicate-append-replicate}
 use lib.Seq.{take-append-add, take_at}
-use Rattle.meaning.specs.Limits.{most_parameters, entry_bytes}
+use Rattle.meaning.specs.Limits.{entry_bytes}
 use Rattle.meaning.specs.Lists.{each}
 use Rattle.meaning.specs.Sets.{empty, single}
 use Rattle.meaning.specs.Tree.{Closing, Procedure, variables, loops_of}
@@ -15,7 +15,7 @@ use Rattle.meaning.specs.Flow.{by_sets, start_sets, ends as returned, grow}
 use Rattle.meaning.proofs.Lists.{length_each}
 use Rattle.meaning.proofs.Places.{row_of, result_place}
 use Rattle.book.proofs.Text.{ClosingHere}
-use Rattle.book.proofs.Readable.{BookHere}
+use Rattle.book.specs.Here.{BookHere}
 use Rattle.book.proofs.Sound.{book_facts, procedure_view, size_of}
 use Rattle.flow.specs.Rows.{most_variables, Wide}
 use Rattle.flow.specs.Copies.{most_places}
@@ -151,9 +151,6 @@ body_ready {b} {σ} {new} {sets} {p} {row} {a} {l} {i} c t h =
     }
 
 -- What the code asks and gives.
-pub body_start : {b σ new : List ℕ} {p row a : ℕ} → BodyPre b σ new p row → a ≡ get_or b (1 + entry_bytes * p + 4) 0 → a ≤ most_parameters
-body_start c e = omega (arith, c.entry.few_parameters)
-
 pub body_pre : {b σ new sets : List ℕ} {p row a l i : ℕ} → BodyPre b σ new p row → a ≡ get_or b (1 + entry_bytes * p + 4) 0 →
     l ≡ get_or b (1 + entry_bytes * p + 5) 0 → i ≡ pair b (1 + entry_bytes * p) →
     sets ≡ each a single ++ replicate (most_variables - a) 0 → ClosingPre (going b σ (a + l)) p (standing i row new sets)

@@ -28,7 +28,7 @@ use Rattle.flow.proofs.Exprs.{args_moved, none_here, more_here, Called, given_he
 pub call_there : {b σ : List ℕ} {i : ℕ} → CodedPre 0x13 b σ i → i + 1 < length b
 call_there q = (call_view q.pre.here q.is).there
 
-pub call_entry : {b σ : List ℕ} {i p : ℕ} → CodedPre 0x13 b σ i → p ≡ get_or b (i + 1) 0 → 1 + 6 * p + 4 < length b
+pub call_entry : {b σ : List ℕ} {i p : ℕ} → CodedPre 0x13 b σ i → p ≡ get_or b (i + 1) 0 → 7 + 6 * p ≤ length b
 call_entry {b} {σ} {i} {p} q e = omega (arith, (call_view q.pre.here q.is).known, q.pre.contents.listed.room)
 
 pub call_few : {b σ : List ℕ} {i p n : ℕ} → CodedPre 0x13 b σ i → p ≡ get_or b (i + 1) 0 → n ≡ (entry b p).parameters → n ≤ most_parameters
@@ -63,9 +63,6 @@ call_past h e d q =
       w = q.pre.w;
       here = call_args q (record { callee = d; count = e }) q.pre.w q.pre.here;
     }
-
-pub call_past_at : {b σ : List ℕ} {i n m : ℕ} → CodedPre 0x13 b σ i → PastPost b n (i + 2) m → m ≤ most_bytes
-call_past_at q d = omega (arith, d.inside, q.pre.contents.listed.short)
 
 pub call_none : {b σ : List ℕ} (bits : List ℕ) {i p n m r : ℕ} → CodedPre 0x13 b σ i → p ≡ get_or b (i + 1) 0 → n ≡ (entry b p).parameters →
     get_or σ p 0 ≡ 0 → PastPost b n (i + 2) m → Flowed 0 m r → ExprAnswer b σ bits i r

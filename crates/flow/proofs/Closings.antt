@@ -11,6 +11,7 @@ use Rattle.meaning.specs.Tree.{loops, loops_of}
 use Rattle.meaning.specs.Reading.{Scope}
 use Rattle.meaning.specs.Sets.{empty, union}
 use Rattle.meaning.specs.Flow.{after, needs, ends as returned, grow, at}
+use Rattle.meaning.proofs.Sets.{union_comm}
 use Rattle.meaning.proofs.Needs.{grow_append, length_grow}
 use Rattle.book.proofs.Text.{ClosingHere}
 use Rattle.book.proofs.Views.{closing_code, give_view, pick_view, first_view}
@@ -19,8 +20,8 @@ use Rattle.flow.specs.Rows.{Wide}
 use Rattle.flow.specs.Copies.{most_places}
 use Rattle.flow.specs.Packed.{set_in, next_in, at_in, row_in, Placed}
 use Rattle.flow.specs.Exprs.{ExprPre, ExprPost, ExprAnswer}
-use Rattle.flow.specs.Walks.{Going, Standing, going, standing, ClosingAt, rules, used, CmdPre, CmdCodedPre, NestedPre, AssignPre, AssignPost}
-use Rattle.flow.specs.Walks.{CmdPost, CmdAnswer, ClosingPre, ClosingCodedPre, ClosingPost, ClosingAnswer}
+use Rattle.flow.specs.Walks.{Going, Standing, going, standing, ClosingAt, rules, used, CmdPre}
+use Rattle.flow.specs.Walks.{CmdPost, ClosingLeft, Nearing, ClosingPre, ClosingCodedPre, ClosingPost, ClosingAnswer}
 use Rattle.flow.proofs.Commands.{rows_both, ready_on}
 
 -- The same sequence, where its place is told otherwise.
@@ -59,10 +60,10 @@ give_pre {w = w} q =
     record { contents = q.pre.ready.contents; w = w; narrow = q.pre.ready.narrow; here = (give_view q.pre.here q.is).given }
 
 pub give_returns : {b σ new sets : List ℕ} {i r w p g u t m z : ℕ} → ClosingCodedPre 0x04 (going b σ w) p (standing i r new sets) →
-    ExprAnswer b σ sets (i + 1) t → u ≡ union (set_in t) g → m ≡ next_in t → Placed m r z →
+    ExprAnswer b σ sets (i + 1) t → u ≡ union g (set_in t) → m ≡ next_in t → Placed m r z →
     ClosingAnswer (going b σ w) p g (standing i r new sets) (set new p (bit_or (get_or new p 0) u)) z
 unfolding union
-give_returns q e f h z = record { is = rw (z.at_is, z.row_is, h) (give_law q e.is f) }
+give_returns {g = g} {t = t} q e f h z = record { is = rw (z.at_is, z.row_is, h) (give_law q e.is (f ∙ union_comm g (set_in t))) }
 
 pub give_at : {b σ new sets : List ℕ} {i r w p t m : ℕ} → ClosingCodedPre 0x04 (going b σ w) p (standing i r new sets) →
     ExprAnswer b σ sets (i + 1) t → m ≡ next_in t → m ≤ most_bytes
@@ -160,22 +161,6 @@ pub pick_returns : {b σ new sets new₁ new₂ : List ℕ} {i r w p g t u m y i
     ClosingAnswer (going b σ w) p u (standing i₁ r₁ new₁ sets) new₂ z → ClosingAnswer (going b σ w) p g (standing i r new sets) new₂ z
 pick_returns p e f h y k l z = record { is = pick_law p e.is f (rw h at y.is) (rw (k, l) at z.is) }
 
--- What is left of a closing sequence does to the sets at hand and to the summary so far what the whole does from the start.
-pub record ClosingLeft (G : Going) (p g : ℕ) (S T : Standing) (x : ClosingAt G S) : Type 0 where
-  pub here : ClosingAt G T
-  pub added : grow T.new (returned here.tree (rules G) p (used G T) g) ≡ grow S.new (returned x.tree (rules G) p (used G S) g)
-  pub ends : here.next ≡ x.next
-  pub rows : T.row + G.width * loops_of here.tree ≡ S.row + G.width * loops_of x.tree
-
--- From S the walk of a closing sequence has come to T.
-pub record Nearing (G : Going) (p g : ℕ) (S T : Standing) : Type 0 where
-  pub pre : ClosingPre G p S
-  pub there : T.at < length G.book
-  pub wide : Wide T.sets
-  pub long : length T.new ≡ length S.new
-  pub on : S.at ≤ T.at
-  pub left : (x : ClosingAt G S) → ClosingLeft G p g S T x
-
 nearing_all : {G : Going} {p g : ℕ} {S T : Standing} → ClosingPre G p S → Wide T.sets → length T.new ≡ length S.new →
     S.at ≤ T.at → ((x : ClosingAt G S) → ClosingLeft G p g S T x) → Nearing G p g S T
 nearing_all c h e o f =
@@ -203,61 +188,28 @@ left_more {G} {p} {g} {S} {T} {U} {x} l h q =
           ∙ l.rows;
     }
 
-nearing_more : {G : Going} {p g : ℕ} {S T U : Standing} → Nearing G p g S T → get_or G.book T.at 0 < 0x04 → CmdPost G g T U →
+pub nearing_more : {G : Going} {p g : ℕ} {S T U : Standing} → Nearing G p g S T → get_or G.book T.at 0 < 0x04 → CmdPost G g T U →
     Nearing G p g S U
 nearing_more q h c =
     nearing_all q.pre c.wide (c.long ∙ q.long) (omega (arith, q.on, c.on)) (λ x. left_more (q.left x) h c)
 
 -- What the walk of what is left asks: of the next command, of the closing command.
-nearing_pre : {G : Going} {p g : ℕ} {S T : Standing} → Nearing G p g S T → ClosingPre G p T
+pub nearing_pre : {G : Going} {p g : ℕ} {S T : Standing} → Nearing G p g S T → ClosingPre G p T
 nearing_pre q =
     let c = q.pre in
     let y = q.left c.here in
     record { ready = ready_on c.ready q.long q.wide; here = y.here; room = omega (arith, c.room, y.rows); result = c.result }
 
-first_pre : {G : Going} {p : ℕ} {S : Standing} → ClosingPre G p S → get_or G.book S.at 0 < 0x04 → CmdPre G S
+pub first_pre : {G : Going} {p : ℕ} {S : Standing} → ClosingPre G p S → get_or G.book S.at 0 < 0x04 → CmdPre G S
 unfolding loops_of
 first_pre {G} {p} {S} c h =
     let t = first_view c.here h in
     let k = rw (rows_both S.row G.width (loops t.head.tree) (loops_of t.rest.tree)) at (rw t.tree at c.room) in
     record { ready = c.ready; here = t.head; room = omega arith }
 
-coded : {G : Going} {p g : ℕ} {S T : Standing} → Nearing G p g S T → get_or G.book T.at 0 ≡ 0x01 → CmdCodedPre 0x01 G T
-coded q h = record { pre = first_pre (nearing_pre q) (omega arith); there = q.there; is = h }
-
--- The code of a command that is neither a return nor a closing if.
-ordinary : {G : Going} {p g : ℕ} {S T : Standing} → Nearing G p g S T → (get_or G.book T.at 0 ≡ 0x04 → ⊥) →
-    (get_or G.book T.at 0 ≡ 0x05 → ⊥) → get_or G.book T.at 0 < 0x04
-ordinary q h k =
-    let x = closing_code (nearing_pre q).here in
-    omega arith
-
--- What the code asks and gives.
 pub nearing_none : {G : Going} {p : ℕ} {S : Standing} (g : ℕ) → ClosingPre G p S → Nearing G p g S S
 nearing_none g c =
     nearing_all c c.ready.wide refl (omega arith) (λ x. record { here = x; added = refl; ends = refl; rows = refl })
-
-pub nearing_coded : {S : Standing} {b σ new sets : List ℕ} {w p g i r k : ℕ} → Nearing (going b σ w) p g S (standing i r new sets) →
-    get_or b i 0 ≡ k → ClosingCodedPre k (going b σ w) p (standing i r new sets)
-nearing_coded q h = record { pre = nearing_pre q; there = q.there; is = h }
-
-pub nearing_assign_pre : {S : Standing} {b σ new sets : List ℕ} {w p g i r : ℕ} → Nearing (going b σ w) p g S (standing i r new sets) →
-    get_or b i 0 ≡ 0x01 → AssignPre b σ i sets
-nearing_assign_pre {new = new} {w = w} {r = r} q h = record { new = new; row = r; w = w; coded = coded q h }
-
-pub nearing_assign : {S : Standing} {b σ new sets sets' : List ℕ} {w p g i r i' : ℕ} → Nearing (going b σ w) p g S (standing i r new sets) →
-    get_or b i 0 ≡ 0x01 → AssignPost b σ i sets g sets' i' → Nearing (going b σ w) p g S (standing i' r new sets')
-nearing_assign {new = new} {w = w} {r = r} q h z = nearing_more q (omega arith) (z.is new r w (coded q h))
-
-pub nearing_nested_pre : {S : Standing} {b σ new sets : List ℕ} {w p g i r : ℕ} → Nearing (going b σ w) p g S (standing i r new sets) →
-    (get_or b i 0 ≡ 0x04 → ⊥) → (get_or b i 0 ≡ 0x05 → ⊥) → (get_or b i 0 ≡ 0x01 → ⊥) → NestedPre (going b σ w) (standing i r new sets)
-nearing_nested_pre q h k l = record { pre = first_pre (nearing_pre q) (ordinary q h k); there = q.there; other = l }
-
-pub nearing_nested : {S : Standing} {b σ new sets new' sets' : List ℕ} {w p g i r z i' r' : ℕ} →
-    Nearing (going b σ w) p g S (standing i r new sets) → (get_or b i 0 ≡ 0x04 → ⊥) → (get_or b i 0 ≡ 0x05 → ⊥) →
-    CmdAnswer (going b σ w) g (standing i r new sets) new' sets' z → r' ≡ row_in z → i' ≡ at_in z →
-    Nearing (going b σ w) p g S (standing i' r' new' sets')
-nearing_nested q h k z d f = rw (d, f) (nearing_more q (ordinary q h k) z.is)
 
 -- The closing command does what is left.
 pub nearing_returns : {G : Going} {p g : ℕ} {S : Standing} {new sets new' : List ℕ} {i r z : ℕ} → Nearing G p g S (standing i r new sets) →

@@ -19,10 +19,6 @@ use Rattle.flow.specs.Rows.{most_variables}
 use Rattle.flow.specs.Exprs.{within, Listed, ExprPre, CodedPre, ExprPost, ExprAnswer}
 use Rattle.flow.specs.Packed.{set_in, next_in, Flowed}
 
--- The same tree, where its place is told otherwise.
-abbrev pub expr_moved : {b : List ℕ} {v : Scope} {i j : ℕ} → i ≡ j → ExprHere b v j → ExprHere b v i
-expr_moved {b} {v} e x = record { tree = x.tree; next = x.next; is = rw e x.is }
-
 abbrev pub args_moved : {b : List ℕ} {v : Scope} {n m i j : ℕ} → n ≡ m → i ≡ j → ArgsHere b v m j → ArgsHere b v n i
 args_moved {b} {v} d e x = record { tree = x.tree; next = x.next; is = rw (d, e) x.is }
 

@@ -52,6 +52,3 @@ filling_front {d} {s} {l} {i} f h = rw (filling_done f h) (take_at s (drop (leng
 
 pub filling_whole : {d s l : List ℕ} {i : ℕ} → Filling d s i l → length d ≤ length s → length s ≤ i → l ≡ s
 filling_whole {d} {s} {l} {i} f g h = sym (take_all (length s) l (omega (arith, filling_length f))) ∙ filling_front f h
-
-pub filling_next : {d s l : List ℕ} {i n : ℕ} → Filling d s i l → n ≡ length s → i < n → Filling d s (i + 1) (set l i (get_or s i 0))
-filling_next f e h = filling_more f (omega arith) refl

@@ -4,6 +4,7 @@ use mathlib.Core.Logic.{inl, inr}
 use mathlib.Core.Bool.{Bool, true, false, ◌&&◌}
 use mathlib.Core.List.{List}
 use Prim.Native.Nat.{ℕ, suc, ◌+◌, ◌-◌, ◌≤◌, ◌<◌}
+use Rattle.meaning.specs.Limits.{most_parameters}
 use native.Mathlib.Numerals.{add-one}
 use native.Mathlib.Omega.{arith}
 use native.Mathlib.Decide.{ℕ_discrete}
@@ -14,10 +15,12 @@ use Rattle.meaning.specs.Reading.{entry, procedures}
 use Rattle.meaning.specs.Flow.{at, size, limits, legal}
 use Rattle.meaning.proofs.Lists.{Tested, holds_or_fails, both, both_left, both_right, every_sound, every_complete}
 use Rattle.meaning.proofs.Places.{result_place, result_limit}
-use Rattle.book.proofs.Readable.{BookHere}
+use Rattle.book.specs.Here.{BookHere}
 use Rattle.book.proofs.Sound.{book_facts, procedure_view}
-use Rattle.flow.specs.Rounds.{Begins}
-use Rattle.flow.specs.Legality.{names_only, OwnedPre, OwnedPost, LegalPre, LegalPost}
+use Rattle.flow.specs.Rounds.{Begins, Rowed, rows_of}
+use Rattle.flow.specs.Copies.{most_places}
+use Rattle.flow.specs.Legality.{LegalPre, LegalPost}
+use Rattle.flow.proofs.Names.{names_only, names_sound, names_complete}
 use Rattle.flow.proofs.Spans.{rows_start, rows_next, rows_below, rows_all, size_rows, limit_row}
 use Rattle.flow.proofs.Numbers.{Numbered, numbered}
 use Rattle.flow.proofs.Starts.{row_at, begin_is, end_is, rowed}
@@ -52,114 +55,108 @@ module _ {b : List ℕ} (σ : List ℕ) (g : BookHere b) (p : ℕ) (h : p < proc
   row_below : (k : ℕ) → k < row_at g (suc p) → k < size g.book
   row_below k l = omega (arith, rows_below (length g.book) g.book (suc p), size_rows g.book)
 
--- What a test of procedure p is of: its entry's parameters, and its rows by the table.
-pub record Tried (b starts : List ℕ) (n p i j m : ℕ) : Type 0 where
-  pub known : p < n
-  pub from : i ≡ get_or starts p 0
-  pub to : j ≡ get_or starts (p + 1) 0
-  pub parameters : m ≡ (entry b p).parameters
-
 -- The sets of the first p procedures pass.
 pub record Judging (b σ starts : List ℕ) (n p : ℕ) : Type 0 where
   pub counted : Numbered b n
   pub begins : Begins b starts
+  pub wide : length σ ≡ most_places
   pub below : p ≤ n
   pub results : (g : BookHere b) (k : ℕ) → k < p → ok_at g.book σ k ≡ true
   pub rows : (g : BookHere b) (k : ℕ) → length g.book ≤ k → k < row_at g p → ok_at g.book σ k ≡ true
 
-pub judging_none : {b starts : List ℕ} {n : ℕ} (σ : List ℕ) → LegalPre b starts → n ≡ procedures b → Judging b σ starts n 0
-judging_none σ c e =
+pub judging_none : {b σ starts : List ℕ} {n : ℕ} → LegalPre b starts → length σ ≡ most_places → n ≡ procedures b → Judging b σ starts n 0
+judging_none c w e =
     record {
       counted = numbered c.book e;
       begins = c.begins;
+      wide = w;
       below = omega arith;
       results = λ g k l. absurd (omega arith);
       rows = λ g k l m. absurd (omega (arith, rows_start (length g.book) g.book));
     }
 
--- The rows of procedure p lie within the places, and its parameters are few.
-pub judging_pre : {b σ starts : List ℕ} {n p i j m : ℕ} → Judging b σ starts n p → Tried b starts n p i j m → OwnedPre p i j m
-judging_pre {b} {σ} {starts} {n} {p} s t =
-    let u = s.counted in
-    let r = rowed s.begins u t.known in
-    let f = (book_facts u.book).few_parameters p (omega (arith, u.is, t.known)) in
-    record {
-      result = omega (arith, u.few, t.known);
-      rows = record {
-        from = omega (arith, r.on, t.from, t.to);
-        to = omega (arith, r.fit, t.to);
-        few = omega (arith, t.parameters);
-      };
-    }
+-- The rows of procedure p lie within the places, and its entry within the book, whose parameters are few.
+module _ {b σ starts : List ℕ} {n p : ℕ} (s : Judging b σ starts n p) (l : p < n) where
+  pub judging_rows : Rowed starts p
+  judging_rows = rowed s.begins s.counted l
 
-module _ {b σ starts : List ℕ} {n p i j m : ℕ} (s : Judging b σ starts n p) (t : Tried b starts n p i j m) (g : BookHere b) where
+  pub judging_few : {m : ℕ} → m ≡ (entry b p).parameters → m ≤ most_parameters
+  judging_few e = omega (arith, (book_facts s.counted.book).few_parameters p (omega (arith, s.counted.is)))
+
+-- What the test of procedure p is of.
+abbrev passed : List ℕ → List ℕ → ℕ → ℕ → Bool
+passed σ starts p m = inside (get_or σ p 0) (upto m) && names_only (rows_of σ starts p) m
+
+module _ {b σ starts : List ℕ} {n p m : ℕ} (s : Judging b σ starts n p) (l : p < n) (d : m ≡ (entry b p).parameters) (g : BookHere b) where
   tried : p < procedures b
-  tried = omega (arith, s.counted.is, t.known)
+  tried = omega (arith, s.counted.is)
 
-  first : i ≡ row_at g p
-  first = t.from ∙ begin_is s.begins g p tried
+  first : get_or starts p 0 ≡ row_at g p
+  first = begin_is s.begins g p tried
 
-  last : j ≡ row_at g (suc p)
-  last = t.to ∙ end_is s.begins g p tried
+  last : get_or starts (p + 1) 0 ≡ row_at g (suc p)
+  last = end_is s.begins g p tried
+
+  within : get_or starts (p + 1) 0 ≤ length σ
+  within = omega (arith, (judging_rows s l).fit, s.wide)
 
   -- Where its own sets pass, those of procedure p do by the rules, and the other way round.
-  result_passes : (inside (get_or σ p 0) (upto m) && names_only σ i j m) ≡ true → ok_at g.book σ p ≡ true
-  result_passes e = result_ok σ g p tried ∙ rw t.parameters at (both_left (inside (get_or σ p 0) (upto m)) (names_only σ i j m) e)
+  result_passes : passed σ starts p m ≡ true → ok_at g.book σ p ≡ true
+  result_passes e =
+      result_ok σ g p tried ∙ rw d at (both_left (inside (get_or σ p 0) (upto m)) (names_only (rows_of σ starts p) m) e)
 
-  row_passes : (inside (get_or σ p 0) (upto m) && names_only σ i j m) ≡ true → (k : ℕ) → row_at g p ≤ k → k < row_at g (suc p) → ok_at g.book σ k ≡ true
-  unfolding names_only
-  row_passes e k l h =
+  row_passes : passed σ starts p m ≡ true → (k : ℕ) → row_at g p ≤ k → k < row_at g (suc p) → ok_at g.book σ k ≡ true
+  row_passes e k f h =
       let a = first in
       let c = last in
-      let q : i + (k - i) ≡ k = omega arith in
       let x =
-      every_sound (j - i) (λ k. inside (get_or σ (i + k) 0) (upto m))
-      (both_right (inside (get_or σ p 0) (upto m)) (names_only σ i j m) e) (k - i) (omega arith) in
-      row_ok σ g p tried k l h ∙ rw (q, t.parameters) at x
+      names_sound σ (get_or starts p 0) (get_or starts (p + 1) 0) m within
+      (both_right (inside (get_or σ p 0) (upto m)) (names_only (rows_of σ starts p) m) e) k (omega arith) (omega arith) in
+      row_ok σ g p tried k f h ∙ rw d at x
 
-  legal_passes : legal g.book σ ≡ true → (inside (get_or σ p 0) (upto m) && names_only σ i j m) ≡ true
-  unfolding legal names_only
+  legal_passes : legal g.book σ ≡ true → passed σ starts p m ≡ true
+  unfolding legal
   legal_passes e =
       let a = first in
       let c = last in
       let each = every_sound (size g.book) (ok_at g.book σ) e in
       let x : inside (get_or σ p 0) (upto m) ≡ true =
-      rw t.parameters (sym (result_ok σ g p tried) ∙ each p (result_below σ g p tried)) in
-      let own : (k : ℕ) → k < j - i → inside (get_or σ (i + k) 0) (upto m) ≡ true =
-      λ k l.
-      rw t.parameters
-      (sym (row_ok σ g p tried (i + k) (omega arith) (omega arith)) ∙ each (i + k) (row_below σ g p tried (i + k) (omega arith))) in
-      both x (every_complete (j - i) (λ k. inside (get_or σ (i + k) 0) (upto m)) own)
+      rw d (sym (result_ok σ g p tried) ∙ each p (result_below σ g p tried)) in
+      let own : (k : ℕ) → get_or starts p 0 ≤ k → k < get_or starts (p + 1) 0 → inside (get_or σ k 0) (upto m) ≡ true =
+      λ k f h.
+      rw d (sym (row_ok σ g p tried k (omega arith) (omega arith)) ∙ each k (row_below σ g p tried k (omega arith))) in
+      both x (names_complete σ (get_or starts p 0) (get_or starts (p + 1) 0) m within own (judging_rows s l).on)
 
-pub judging_more : {b σ starts : List ℕ} {n p i j m : ℕ} {r : Bool} → Judging b σ starts n p → Tried b starts n p i j m → OwnedPost σ p i j m r → r ≡ true →
-    Judging b σ starts n (p + 1)
-judging_more {b} {σ} {starts} {n} {p} {i} {j} {m} {r} s t o e =
+pub judging_more : {b σ starts : List ℕ} {n p m : ℕ} {r : Bool} → Judging b σ starts n p → p < n → m ≡ (entry b p).parameters →
+    r ≡ passed σ starts p m → r ≡ true → Judging b σ starts n (p + 1)
+judging_more {b} {σ} {starts} {n} {p} {m} {r} s t d o e =
     record {
       counted = s.counted;
       begins = s.begins;
-      below = omega (arith, t.known);
+      wide = s.wide;
+      below = omega arith;
       results = λ g k l. result g k l (ℕ_discrete k p);
       rows = λ g k l h. row g k l (rw (add-one p) at h) (ℕ_discrete (row_at g p - k) 0);
     }
   where
-    passes : (inside (get_or σ p 0) (upto m) && names_only σ i j m) ≡ true
-    passes = sym o.is ∙ e
+    passes : passed σ starts p m ≡ true
+    passes = sym o ∙ e
 
     result : (g : BookHere b) (k : ℕ) → k < p + 1 → Dec (k ≡ p) → ok_at g.book σ k ≡ true
-    result g k l (yes q) = rw q (result_passes s t g passes)
+    result g k l (yes q) = rw q (result_passes s t d g passes)
     result g k l (no q) = s.results g k (omega arith)
 
     row : (g : BookHere b) (k : ℕ) → length g.book ≤ k → k < row_at g (suc p) → Dec (row_at g p - k ≡ 0) → ok_at g.book σ k ≡ true
-    row g k l h (yes q) = row_passes s t g passes k (omega arith) h
+    row g k l h (yes q) = row_passes s t d g passes k (omega arith) h
     row g k l h (no q) = s.rows g k l (omega arith)
 
 -- Sets that do not pass make the whole summary illegal: were it legal, they would pass.
-pub judging_broken : {b σ starts : List ℕ} {n p i j m : ℕ} {r : Bool} → Judging b σ starts n p → Tried b starts n p i j m → OwnedPost σ p i j m r → r ≡ false →
-    LegalPost b σ false
-judging_broken {b} {σ} s t o e = record { is = λ g. go g (holds_or_fails (legal g.book σ)) }
+pub judging_broken : {b σ starts : List ℕ} {n p m : ℕ} {r : Bool} → Judging b σ starts n p → p < n → m ≡ (entry b p).parameters →
+    r ≡ passed σ starts p m → r ≡ false → LegalPost b σ false
+judging_broken {b} {σ} s t d o e = record { is = λ g. go g (holds_or_fails (legal g.book σ)) }
   where
     go : (g : BookHere b) → Tested (legal g.book σ) → false ≡ legal g.book σ
-    go g (inl h) = let y = legal_passes s t g h in let x = o.is in let z : ◌≡◌ {A = ℕ} 0 1 = cc in absurd (omega arith)
+    go g (inl h) = let y = legal_passes s t d g h in let z : ◌≡◌ {A = ℕ} 0 1 = cc in absurd (omega arith)
     go g (inr h) = sym h
 
 -- Every place is a result or in some row, so all pass.

@@ -14,7 +14,7 @@ use Rattle.flow.specs.Rows.{Held}
 use Rattle.flow.specs.Packed.{set_in, next_in}
 use Rattle.flow.specs.Exprs.{ExprPre, ExprPost, ExprAnswer}
 use Rattle.flow.specs.Walks.{Going, Standing, going, standing, CmdAt, RunAt, rules}
-use Rattle.flow.specs.Walks.{Raised, ArrivePre, Arrived, CmdCodedPre, LoopPre, NestedPre, CmdPost, CmdAnswer, RunPre, RunPost, RunAnswer}
+use Rattle.flow.specs.Walks.{Raised, Arrived, CmdCodedPre, LoopPre, NestedPre, CmdPost, CmdAnswer, RunPre, RunPost, RunAnswer}
 use Rattle.flow.proofs.Commands.{run_moved, rows_both, ready_on, cmd_post}
 
 -- The walk at the loop's run, from its row.
@@ -71,17 +71,6 @@ inside_pre {G} {S} {new₁} {held} p a k e =
     }
 
 -- What the code asks and gives.
-pub repeat_arrives : {b σ new sets : List ℕ} {i r w : ℕ} → LoopPre (going b σ w) (standing i r new sets) → ArrivePre σ new r w sets
-repeat_arrives p =
-    let q = p.coded.pre.ready in
-    record {
-      held = record { narrow = q.narrow; fits = p.fits };
-      room = record { narrow = q.narrow; fits = omega (arith, p.fits, q.sized) };
-      old_wide = q.contents.places;
-      new_wide = q.sized ∙ q.contents.places;
-      wide = q.wide;
-    }
-
 pub repeat_test : {b σ new sets : List ℕ} {i r w : ℕ} → LoopPre (going b σ w) (standing i r new sets) → ExprPre b σ (i + 1)
 repeat_test {w = w} p =
     let q = p.coded.pre in
@@ -91,20 +80,6 @@ pub repeat_inside : {b σ new sets new₁ held : List ℕ} {i r w t m : ℕ} →
     Arrived σ new r w sets new₁ held → ExprAnswer b σ held (i + 1) t → m ≡ next_in t → RunPre (going b σ w) (standing m (r + w) new₁ held)
 repeat_inside p a e h = rw h (inside_pre p.coded a.raised a.held e.is)
 
--- The sets may arrive again at the row, or at the front of it.
-pub repeat_again : {b σ new sets new₁ held new₂ sets₂ : List ℕ} {i r w v u m z : ℕ} → v ≤ w →
-    RunAnswer (going b σ w) u (standing m (r + w) new₁ held) new₂ sets₂ z → Arrived σ new r w sets new₁ held →
-    LoopPre (going b σ w) (standing i r new sets) → ArrivePre σ new₂ r v sets₂
-repeat_again l y a p =
-    let q = repeat_arrives p in
-    record {
-      held = record { narrow = omega (arith, q.held.narrow); fits = omega (arith, q.held.fits) };
-      room = record { narrow = omega (arith, q.held.narrow); fits = omega (arith, q.room.fits, a.raised.long, y.is.long) };
-      old_wide = q.old_wide;
-      new_wide = y.is.long ∙ a.raised.long ∙ q.new_wide;
-      wide = y.is.wide;
-    }
-
 pub repeat_returns : {b σ new sets new₁ held new₂ sets₂ new₃ held' : List ℕ} {i r w g t u m z : ℕ} →
     LoopPre (going b σ w) (standing i r new sets) → Arrived σ new r w sets new₁ held → ExprAnswer b σ held (i + 1) t → m ≡ next_in t →
     u ≡ union g (set_in t) → RunAnswer (going b σ w) u (standing m (r + w) new₁ held) new₂ sets₂ z →
@@ -112,11 +87,7 @@ pub repeat_returns : {b σ new sets new₁ held new₂ sets₂ new₃ held' : Li
 repeat_returns p a e h f y z =
     record { is = repeat_law p.coded a.raised a.held e.is f (rw h at y.is) z.raised z.held }
 
--- The codes that a command other than an assignment may have.
-pub nested_branch : {b σ new sets : List ℕ} {i r w : ℕ} → NestedPre (going b σ w) (standing i r new sets) → get_or b i 0 ≡ 0x02 →
-    CmdCodedPre 0x02 (going b σ w) (standing i r new sets)
-nested_branch p y = record { pre = p.pre; there = p.there; is = y }
-
+-- A command that is neither an assignment nor an if.
 pub nested_loop : {b σ new sets : List ℕ} {i r w : ℕ} → NestedPre (going b σ w) (standing i r new sets) → (get_or b i 0 ≡ 0x02 → ⊥) →
     LoopPre (going b σ w) (standing i r new sets)
 nested_loop {b} {σ} {new} {sets} {i} {r} {w} p y =

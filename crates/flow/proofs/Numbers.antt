@@ -6,7 +6,7 @@ use native.Mathlib.Omega.{arith}
 use lib.ListN.{length}
 use Rattle.meaning.specs.Limits.{most_bytes, most_procedures, entry_bytes}
 use Rattle.meaning.specs.Reading.{procedures}
-use Rattle.book.proofs.Readable.{BookHere}
+use Rattle.book.specs.Here.{BookHere}
 use Rattle.book.proofs.Sound.{book_facts}
 
 -- The readable book has n procedures, which are few, and their entries lie within its bytes, which are few too.

@@ -1,13 +1,11 @@
 -- A loop over the procedures of a book that walks some bodies: what is walked so far, and what is left.
 use mathlib.Core.Path.{◌≡◌, refl, sym, ap, ◌∙◌}
-use mathlib.Core.Logic.{◌≢◌}
-use mathlib.Core.Bool.{true, false, cond}
+use mathlib.Core.Bool.{Bool, true, false, cond}
 use mathlib.Core.List.{List, []}
 use mathlib.Core.Option.{some}
 use Prim.Native.Nat.{ℕ, suc, ◌+◌, ◌≤◌, ◌<◌}
 use native.Mathlib.Numerals.{add-one}
 use native.Mathlib.Omega.{arith}
-use borrow.Author.Tests.{eq-eqb, ne_eqb}
 use lib.ListN.{length, get_or, drop, get_elem?}
 use lib.Seq.{drop-length}
 use Rattle.meaning.specs.Sets.{empty}
@@ -16,7 +14,7 @@ use Rattle.meaning.specs.Reading.{procedures}
 use Rattle.meaning.specs.Flow.{by_sets, start_sets, ends as returned, grow}
 use Rattle.meaning.proofs.Needs.{grow_append}
 use Rattle.meaning.proofs.Skipping.{asked_from, asked}
-use Rattle.book.proofs.Readable.{BookHere}
+use Rattle.book.specs.Here.{BookHere}
 use Rattle.book.proofs.Sound.{book_facts, procedure_view}
 use Rattle.flow.specs.Copies.{most_places}
 use Rattle.flow.specs.Rounds.{BodyPre, BodyPost}
@@ -27,14 +25,14 @@ use Rattle.flow.proofs.Bodies.{entry_here}
 use Rattle.flow.proofs.Rounding.{drop_here}
 
 -- The first p bodies are walked, of those that are to be; what the others demand is left.
-pub record Skimming (b σ new walks starts : List ℕ) (n p : ℕ) (new' : List ℕ) : Type 0 where
+pub record Skimming (b σ new : List ℕ) (walks : List Bool) (starts : List ℕ) (n p : ℕ) (new' : List ℕ) : Type 0 where
   pub pre : PassPre b σ new starts
   pub counted : Numbered b n
   pub below : p ≤ n
   pub wide : length new' ≡ most_places
   pub added : (g : BookHere b) → grow new' (asked_from (walked walks) p (drop p g.book) σ) ≡ grow new (asked (walked walks) g.book σ)
 
-pub skimming_none : {b σ new starts : List ℕ} {n : ℕ} (walks : List ℕ) → PassPre b σ new starts → n ≡ procedures b → Skimming b σ new walks starts n 0 new
+pub skimming_none : {b σ new starts : List ℕ} {n : ℕ} (walks : List Bool) → PassPre b σ new starts → n ≡ procedures b → Skimming b σ new walks starts n 0 new
 unfolding asked
 skimming_none walks c e =
     record {
@@ -45,7 +43,7 @@ skimming_none walks c e =
       added = λ g. refl;
     }
 
-module _ {b σ new walks starts new' : List ℕ} {n p : ℕ} (s : Skimming b σ new walks starts n p new') where
+module _ {b σ new starts new' : List ℕ} {walks : List Bool} {n p : ℕ} (s : Skimming b σ new walks starts n p new') where
   pub skimming_pre : p < n → BodyPre b σ new' p (get_or starts p 0)
   skimming_pre l =
       let h : p < procedures b = omega (arith, s.counted.is) in
@@ -85,19 +83,17 @@ module _ {b σ new walks starts new' : List ℕ} {n p : ℕ} (s : Skimming b σ 
         added = λ g. rw (add-one p) (next_asked (omega (arith, s.counted.is)) new'' g (h g));
       }
 
-  pub skimming_walk : {new'' new''' : List ℕ} {row'' : ℕ} → p < n → get_or walks p 0 ≡ 1 → BodyPost b σ new' p (get_or starts p 0) new'' row'' → new''' ≡ new'' →
-      Skimming b σ new walks starts n (p + 1) new'''
+  pub skimming_walk : {new'' new''' : List ℕ} {row'' : ℕ} → p < n → get_or walks p false ≡ true → BodyPost b σ new' p (get_or starts p 0) new'' row'' →
+      new''' ≡ new'' → Skimming b σ new walks starts n (p + 1) new'''
   skimming_walk {new''} l w z e =
-      let t : walked walks p ≡ true = eq-eqb (get_or walks p 0) 1 w in
       let h : p < procedures b = omega (arith, s.counted.is) in
-      rw e (skimming_turn l new'' z.wide (λ g q f. rw t (z.added g q f (begin_is s.pre.begins g p h))))
+      rw e (skimming_turn l new'' z.wide (λ g q f. rw w (z.added g q f (begin_is s.pre.begins g p h))))
 
   -- A body that is not walked adds nothing, and nothing was asked of it.
-  pub skimming_skip : {new'' : List ℕ} → p < n → get_or walks p 0 ≢ 1 → new'' ≡ new' → Skimming b σ new walks starts n (p + 1) new''
+  pub skimming_skip : {new'' : List ℕ} → p < n → get_or walks p false ≡ false → new'' ≡ new' → Skimming b σ new walks starts n (p + 1) new''
   unfolding grow
   skimming_skip l w e =
-      let t : walked walks p ≡ false = ne_eqb (get_or walks p 0) 1 w in
-      rw e (skimming_turn l new' s.wide (λ g q f. rw t))
+      rw e (skimming_turn l new' s.wide (λ g q f. rw w))
 
   pub skimming_done : n ≤ p → PassPost b σ new walks new'
   unfolding asked_from grow

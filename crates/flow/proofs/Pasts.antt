@@ -96,7 +96,7 @@ passing_call {b} {n} {i} {k} {j} {p} {m} q h g d e =
 pub passing_there : {b : List ℕ} {n i k j : ℕ} → Passing b n i k j → 0 < k → get_or b j 0 ≡ 0x13 → j + 1 < length b
 passing_there q h g = (call_view (passing_head q h) g).there
 
-pub passing_entry : {b : List ℕ} {n i k j p : ℕ} → Passing b n i k j → 0 < k → get_or b j 0 ≡ 0x13 → p ≡ get_or b (j + 1) 0 → 1 + 6 * p + 4 < length b
+pub passing_entry : {b : List ℕ} {n i k j p : ℕ} → Passing b n i k j → 0 < k → get_or b j 0 ≡ 0x13 → p ≡ get_or b (j + 1) 0 → 7 + 6 * p ≤ length b
 passing_entry q h g e = omega (arith, (call_view (passing_head q h) g).known, q.pre.listed.room)
 
 pub passing_returns : {b : List ℕ} {n i k j : ℕ} → Passing b n i k j → k ≤ 0 → PastPost b n i j

@@ -8,12 +8,13 @@ use native.Mathlib.Omega.{arith}
 use native.Mathlib.Decide.{ℕ_discrete}
 use lib.ListN.{length, get_or, set, drop, replicate, get_elem?, length-set, length-replicate}
 use lib.Seq.{get_or-set_same, get_or-set_other, drop-length}
+use Rattle.meaning.specs.Limits.{most_procedures}
 use Rattle.meaning.specs.Sets.{empty}
 use Rattle.meaning.specs.Tree.{Procedure, Book, variables, loops_of}
 use Rattle.meaning.specs.Reading.{procedures}
 use Rattle.meaning.specs.Flow.{by_sets, start_sets, ends as returned, demands_from, demands, grow}
 use Rattle.meaning.proofs.Needs.{grow_append}
-use Rattle.book.proofs.Readable.{BookHere}
+use Rattle.book.specs.Here.{BookHere}
 use Rattle.book.proofs.Sound.{book_facts, procedure_view}
 use Rattle.flow.specs.Copies.{most_places}
 use Rattle.flow.specs.Rounds.{RoundPre, RoundPost, BodyPre, BodyPost}
@@ -24,7 +25,7 @@ use Rattle.flow.proofs.Bodies.{entry_here}
 
 -- The most procedures, and one more.
 abbrev most_starts : ℕ
-most_starts = 33
+most_starts = most_procedures + 1
 
 -- The procedures from p on are p and those behind it.
 pub drop_here : (qs : Book) (p : ℕ) {q : Procedure} → get_elem? qs p ≡ some q → drop p qs ≡ q ∷ drop (suc p) qs
@@ -72,8 +73,8 @@ opening_pre {b} {p = p} s l =
     }
 
 -- A body that is walked adds its demands, and tells where the next rows begin.
-pub opening_more : {b σ new starts new' new'' : List ℕ} {n p row row'' : ℕ} → Opening b σ new n p row starts new' → p < n → BodyPost b σ new' p row new'' row'' →
-    Opening b σ new n (p + 1) row'' (set starts (p + 1) row'') new''
+pub opening_more : {b σ new starts new' new'' : List ℕ} {n p row row'' : ℕ} → Opening b σ new n p row starts new' → p < n →
+    BodyPost b σ new' p row new'' row'' → Opening b σ new n (p + 1) row'' (set starts (p + 1) row'') new''
 unfolding demands_from
 opening_more {b} {σ} {new} {starts} {new'} {new''} {n} {p} {row} {row''} s l z =
     record {

@@ -12,9 +12,8 @@ use Rattle.meaning.specs.Flow.{joined, row, by_sets, at}
 use Rattle.meaning.specs.Lists.{each}
 use Rattle.meaning.proofs.Lists.{length_each, get_or_each}
 use Rattle.flow.specs.Rows.{most_variables, Wide, Held}
-use Rattle.flow.specs.Copies.{most_places}
 use Rattle.flow.specs.Walks.{RowFits}
-use Rattle.flow.proofs.Fill.{Filling, filling_none, filling_more, filling_length, filling_ahead, filling_done, filling_front, filling_whole}
+use Rattle.flow.proofs.Fill.{Filling, filling_none, filling_more, filling_ahead, filling_done, filling_front, filling_length}
 
 pub length_joined : (f : ℕ → ℕ → ℕ) (a b : List ℕ) → length a ≡ length b → length (joined f a b) ≡ length a
 unfolding joined
@@ -39,44 +38,24 @@ take_joined f (suc w) [] (y ∷ b) h = absurd (omega arith)
 take_joined f (suc w) (x ∷ a) [] h = absurd (omega arith)
 take_joined f (suc w) (x ∷ a) (y ∷ b) h = ap (λ (t : List ℕ). f x y ∷ t) (take_joined f w a b (omega arith))
 
--- After i turns of uniting two rows.
+-- After i turns of uniting two lists.
 pub record Joining (a b : List ℕ) (i : ℕ) (l : List ℕ) : Type 0 where
-  pub left : Wide a
-  pub right : Wide b
+  pub alike : length a ≡ length b
   pub filling : Filling a (joined union a b) i l
-  pub count : i ≤ most_variables
 
-pub joining_none : {a b : List ℕ} → Wide a → Wide b → Joining a b 0 a
-joining_none {a} {b} p q =
-    record {
-      left = p;
-      right = q;
-      filling = filling_none a (joined union a b) (omega (arith, length_joined union a b (omega arith)));
-      count = omega arith;
-    }
+pub joining_none : {a b : List ℕ} → length a ≡ length b → Joining a b 0 a
+joining_none {a} {b} e =
+    record { alike = e; filling = filling_none a (joined union a b) (omega (arith, length_joined union a b e)) }
 
-pub joining_more : {a b l : List ℕ} {i : ℕ} → Joining a b i l → i < most_variables →
-    Joining a b (i + 1) (set l i (bit_or (get_or l i 0) (get_or b i 0)))
+pub joining_more : {a b l : List ℕ} {i : ℕ} → Joining a b i l → i < length a → Joining a b (i + 1) (set l i (bit_or (get_or l i 0) (get_or b i 0)))
 unfolding union
 joining_more {a} {b} {l} {i} j h =
-    let p = j.left in
-    let q = j.right in
-    let n = length_joined bit_or a b (omega arith) in
     record {
-      left = p;
-      right = q;
+      alike = j.alike;
       filling =
-          filling_more j.filling (omega arith)
-          (rw (filling_ahead j.filling) (sym (get_or_joined bit_or a b i 0 (omega arith) (omega arith))));
-      count = omega arith;
+          filling_more j.filling (omega (arith, length_joined bit_or a b j.alike))
+          (rw (filling_ahead j.filling) (sym (get_or_joined bit_or a b i 0 j.alike h)));
     }
-
-pub joining_done : {a b l : List ℕ} {i : ℕ} → Joining a b i l → most_variables ≤ i → l ≡ joined union a b
-joining_done {a} {b} {l} {i} j h =
-    let p = j.left in
-    let q = j.right in
-    let n = length_joined union a b (omega arith) in
-    filling_whole j.filling (omega arith) (omega arith)
 
 pub length_row : (σ : List ℕ) (w k : ℕ) → length (row (by_sets σ w) k) ≡ w
 unfolding row
@@ -85,42 +64,6 @@ length_row σ w k = length_each w (λ i. at σ (k + i))
 pub get_or_row : (σ : List ℕ) (w k i : ℕ) → i < w → get_or (row (by_sets σ w) k) i 0 ≡ get_or σ (k + i) 0
 unfolding row at empty
 get_or_row σ w k i h = get_or_each w (λ i. at σ (k + i)) i 0 h
-
--- After i turns of copying a summary's row.
-pub record Holding (σ : List ℕ) (k w : ℕ) (d : List ℕ) (i : ℕ) (l : List ℕ) : Type 0 where
-  pub fits : RowFits k w (length σ)
-  pub places : length σ ≡ most_places
-  pub wide : Wide d
-  pub filling : Filling d (row (by_sets σ w) k) i l
-  pub count : i ≤ w
-
-pub holding_none : {σ d : List ℕ} {k w : ℕ} → RowFits k w (length σ) → length σ ≡ most_places → Wide d → Holding σ k w d 0 d
-holding_none {σ} {d} {k} {w} f e h =
-    record {
-      fits = f;
-      places = e;
-      wide = h;
-      filling = filling_none d (row (by_sets σ w) k) (omega (arith, length_row σ w k, f.narrow, h.long));
-      count = omega arith;
-    }
-
-pub holding_more : {σ d l : List ℕ} {k w i : ℕ} → Holding σ k w d i l → i < w → Holding σ k w d (i + 1) (set l i (get_or σ (k + i) 0))
-holding_more {σ} {d} {l} {k} {w} {i} q h =
-    record {
-      fits = q.fits;
-      places = q.places;
-      wide = q.wide;
-      filling = filling_more q.filling (omega (arith, length_row σ w k)) (sym (get_or_row σ w k i h));
-      count = omega arith;
-    }
-
-pub holding_done : {σ d l : List ℕ} {k w i : ℕ} → Holding σ k w d i l → w ≤ i → Held σ k w l
-holding_done {σ} {d} {l} {k} {w} {i} q h =
-    let n = length_row σ w k in
-    record {
-      wide = record { long = omega (arith, filling_length q.filling, q.wide.long) };
-      same = rw n at (filling_front q.filling (omega arith));
-    }
 
 drop_replicate : (a n m k : ℕ) → n + m ≡ k → drop n (replicate k a) ≡ replicate m a
 drop_replicate a n m k e =
@@ -156,3 +99,36 @@ starting_done {l} {n} {i} q h =
     let f = q.few in
     filling_done q.filling (omega arith)
     ∙ ap (λ (t : List ℕ). each n single ++ t) (rw e (drop_replicate 0 n (most_variables - n) most_variables (omega arith)))
+
+-- After i turns of copying a summary's row.
+pub record Holding (σ : List ℕ) (k w : ℕ) (d : List ℕ) (i : ℕ) (l : List ℕ) : Type 0 where
+  pub fits : RowFits k w (length σ)
+  pub wide : Wide d
+  pub filling : Filling d (row (by_sets σ w) k) i l
+  pub count : i ≤ w
+
+pub holding_none : {σ d : List ℕ} {k w : ℕ} → RowFits k w (length σ) → Wide d → Holding σ k w d 0 d
+holding_none {σ} {d} {k} {w} f h =
+    record {
+      fits = f;
+      wide = h;
+      filling = filling_none d (row (by_sets σ w) k) (omega (arith, length_row σ w k, f.narrow, h.long));
+      count = omega arith;
+    }
+
+pub holding_more : {σ d l : List ℕ} {k w i : ℕ} → Holding σ k w d i l → i < w → Holding σ k w d (i + 1) (set l i (get_or σ (k + i) 0))
+holding_more {σ} {d} {l} {k} {w} {i} q h =
+    record {
+      fits = q.fits;
+      wide = q.wide;
+      filling = filling_more q.filling (omega (arith, length_row σ w k)) (sym (get_or_row σ w k i h));
+      count = omega arith;
+    }
+
+pub holding_done : {σ d l : List ℕ} {k w i : ℕ} → Holding σ k w d i l → w ≤ i → Held σ k w l
+holding_done {σ} {d} {l} {k} {w} {i} q h =
+    let n = length_row σ w k in
+    record {
+      wide = record { long = omega (arith, filling_length q.filling, q.wide.long) };
+      same = rw n at (filling_front q.filling (omega arith));
+    }

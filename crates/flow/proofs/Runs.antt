@@ -1,7 +1,7 @@
--- A loop over the commands of a run.
+-- The walk of a run: what has been walked, and what is left.
 use mathlib.Core.Path.{◌≡◌, refl, sym, ap, ap₂, ◌∙◌}
 use mathlib.Core.List.{List}
-use Prim.Native.Nat.{ℕ, ◌+◌, ◌*◌, ◌≤◌, ◌<◌}
+use Prim.Native.Nat.{ℕ, ◌+◌, ◌*◌, ◌≤◌}
 use native.Mathlib.Nat.{mul-zero, add-zero}
 use native.Mathlib.Omega.{arith}
 use lib.ListN.{length, get_or}
@@ -11,28 +11,8 @@ use Rattle.meaning.proofs.Needs.{grow_append}
 use Rattle.book.proofs.Views.{run_code, stop_view, then_view}
 use Rattle.book.proofs.Views.Bounds.{run_spans}
 use Rattle.flow.specs.Rows.{Wide}
-use Rattle.flow.specs.Packed.{at_in, row_in, Placed}
-use Rattle.flow.specs.Walks.{Going, Standing, going, standing, RunAt, rules, used}
-use Rattle.flow.specs.Walks.{CmdPre, CmdCodedPre, NestedPre, AssignPre, AssignPost, CmdPost, CmdAnswer, RunPre, RunPost, RunAnswer}
+use Rattle.flow.specs.Walks.{Going, Standing, standing, RunAt, rules, used, CmdPre, CmdPost, RunPre, RunPost, RunLeft, Running}
 use Rattle.flow.proofs.Commands.{run_moved, rows_both, ready_on}
-
--- The commands that are left do to the sets at hand and to the summary so far what the whole run does from the start.
-pub record RunLeft (G : Going) (g : ℕ) (S T : Standing) (x : RunAt G S) : Type 0 where
-  pub here : RunAt G T
-  pub added : grow T.new (needs_in here.tree (rules G) (used G T) g) ≡ grow S.new (needs_in x.tree (rules G) (used G S) g)
-  pub sets : afters here.tree (rules G) (used G T) g ≡ afters x.tree (rules G) (used G S) g
-  pub ends : here.next ≡ x.next
-  pub rows : T.row + G.width * loops_in here.tree ≡ S.row + G.width * loops_in x.tree
-
--- From S the walk of a run has come to T.
-pub record Running (G : Going) (g : ℕ) (S T : Standing) : Type 0 where
-  pub pre : RunPre G S
-  pub there : T.at < length G.book
-  pub row : T.row ≤ length G.old
-  pub wide : Wide T.sets
-  pub long : length T.new ≡ length S.new
-  pub on : S.at ≤ T.at
-  pub left : (x : RunAt G S) → RunLeft G g S T x
 
 running_all : {G : Going} {g : ℕ} {S T : Standing} → RunPre G S → Wide T.sets → length T.new ≡ length S.new → S.at ≤ T.at →
     ((x : RunAt G S) → RunLeft G g S T x) → Running G g S T
@@ -66,12 +46,12 @@ left_more {G} {g} {S} {T} {U} {x} l h p =
           ∙ l.rows;
     }
 
-running_more : {G : Going} {g : ℕ} {S T U : Standing} → Running G g S T → (get_or G.book T.at 0 ≡ 0 → ⊥) → CmdPost G g T U →
+pub running_more : {G : Going} {g : ℕ} {S T U : Standing} → Running G g S T → (get_or G.book T.at 0 ≡ 0 → ⊥) → CmdPost G g T U →
     Running G g S U
 running_more q h p =
     running_all q.pre p.wide (p.long ∙ q.long) (omega (arith, q.on, p.on)) (λ x. left_more (q.left x) h p)
 
-running_done : {G : Going} {g : ℕ} {S T : Standing} → Running G g S T → get_or G.book T.at 0 ≡ 0 →
+pub running_done : {G : Going} {g : ℕ} {S T : Standing} → Running G g S T → get_or G.book T.at 0 ≡ 0 →
     RunPost G g S (standing (T.at + 1) T.row T.new T.sets)
 unfolding needs_in afters loops_in grow
 running_done {G} {g} {S} {T} q h =
@@ -99,7 +79,7 @@ running_done {G} {g} {S} {T} q h =
     }
 
 -- What the walk of the next command asks.
-running_pre : {G : Going} {g : ℕ} {S T : Standing} → Running G g S T → (get_or G.book T.at 0 ≡ 0 → ⊥) → CmdPre G T
+pub running_pre : {G : Going} {g : ℕ} {S T : Standing} → Running G g S T → (get_or G.book T.at 0 ≡ 0 → ⊥) → CmdPre G T
 unfolding loops_in
 running_pre {G} {g} {S} {T} q h =
     let p = q.pre in
@@ -111,32 +91,7 @@ running_pre {G} {g} {S} {T} q h =
     ∙ y.rows in
     record { ready = ready_on p.ready q.long q.wide; here = t.head; room = omega (arith, p.room) }
 
-coded : {G : Going} {g : ℕ} {S T : Standing} → Running G g S T → get_or G.book T.at 0 ≡ 0x01 → CmdCodedPre 0x01 G T
-coded q h = record { pre = running_pre q (λ e. omega arith); there = q.there; is = h }
-
--- What the code asks and gives.
 pub running_none : {G : Going} {S : Standing} (g : ℕ) → RunPre G S → Running G g S S
 running_none g p =
     running_all p p.ready.wide refl (omega arith)
     (λ x. record { here = x; added = refl; sets = refl; ends = refl; rows = refl })
-
-pub running_assign_pre : {S : Standing} {b σ new sets : List ℕ} {w g i r : ℕ} → Running (going b σ w) g S (standing i r new sets) →
-    get_or b i 0 ≡ 0x01 → AssignPre b σ i sets
-running_assign_pre {new = new} {w = w} {r = r} q h = record { new = new; row = r; w = w; coded = coded q h }
-
-pub running_assign : {S : Standing} {b σ new sets sets' : List ℕ} {w g i r i' : ℕ} → Running (going b σ w) g S (standing i r new sets) →
-    get_or b i 0 ≡ 0x01 → AssignPost b σ i sets g sets' i' → Running (going b σ w) g S (standing i' r new sets')
-running_assign {new = new} {w = w} {r = r} q h z = running_more q (λ e. omega arith) (z.is new r w (coded q h))
-
-pub running_nested_pre : {S : Standing} {b σ new sets : List ℕ} {w g i r : ℕ} → Running (going b σ w) g S (standing i r new sets) →
-    (get_or b i 0 ≡ 0 → ⊥) → (get_or b i 0 ≡ 0x01 → ⊥) → NestedPre (going b σ w) (standing i r new sets)
-running_nested_pre q h k = record { pre = running_pre q h; there = q.there; other = k }
-
-pub running_nested : {S : Standing} {b σ new sets new' sets' : List ℕ} {w g i r z i' r' : ℕ} → Running (going b σ w) g S (standing i r new sets) →
-    (get_or b i 0 ≡ 0 → ⊥) → CmdAnswer (going b σ w) g (standing i r new sets) new' sets' z → r' ≡ row_in z → i' ≡ at_in z →
-    Running (going b σ w) g S (standing i' r' new' sets')
-running_nested q h p k l = rw (k, l) (running_more q h p.is)
-
-pub running_returns : {S : Standing} {b σ new sets : List ℕ} {w g i r z : ℕ} → Running (going b σ w) g S (standing i r new sets) →
-    get_or b i 0 ≡ 0 → Placed (i + 1) r z → RunAnswer (going b σ w) g S new sets z
-running_returns q h z = record { is = rw (z.at_is, z.row_is) (running_done q h) }

@@ -1,69 +1,62 @@
--- Loops over the bytes of a book that gather the numbers behind each byte 13.
+-- Loops over the bodies of a book that gather the numbers behind each byte 13.
 use mathlib.Core.Path.{◌≡◌, ap, ◌∙◌}
 use mathlib.Core.Bool.{true}
 use mathlib.Core.List.{List, [], ◌∷◌}
-use Prim.Native.Nat.{ℕ, ◌+◌, ◌*◌, ◌≤◌, ◌<◌}
+use Prim.Native.Nat.{ℕ, ◌+◌, ◌-◌, ◌≤◌, ◌<◌}
 use native.Mathlib.Omega.{arith}
 use native.Mathlib.Decide.{ℕ_discrete}
 use borrow.Author.Tests.{eqb-true}
-use mir.Syntax.{w64}
-use mir.Val.{Fits}
 use lib.Dec.{eqb, leb}
-use lib.ListN.{length, get_or, set, replicate, length-set, length-replicate}
-use lib.Seq.{get_or-set_same, get_or-set_other}
+use Rattle.std.specs.Prelude.{Option, Some}
+use Rattle.std.specs.declared.slice.Windows.{Windows}
+use Rattle.std.specs.Slice.Iter.{windows_size, windows_rest, windows_steps}
+use Rattle.std.proofs.lemmas.Iterator.{window_more}
+use denote.Ref.{Bor}
+use lib.ListN.{length, get_or, set, take, drop, replicate, length-drop, length-set, length-replicate}
+use lib.Seq.{get_or-set_same, get_or-set_other, length-take-le}
 use Rattle.meaning.specs.Limits.{most_procedures, most_parameters, most_locals}
 use Rattle.meaning.specs.Sets.{union, single, member}
-use Rattle.meaning.specs.Reading.{Entry, entry, entries, pair, procedures, contents_end, in_turn, contents}
+use Rattle.meaning.specs.Reading.{Entry, entry, entries, procedures, contents_end, in_turn, contents}
 use Rattle.meaning.proofs.Lists.{both_left, both_right}
 use Rattle.meaning.proofs.Pairs.{All, done, also, each_all}
 use Rattle.meaning.proofs.Readable.{reads}
-use Rattle.book.proofs.Readable.{BookHere}
-use Rattle.flow.specs.Waking.{named, BehindPost, ScanPost}
+use Rattle.book.specs.Here.{BookHere}
+use Rattle.flow.specs.Waking.{named, BehindPost}
+use Rattle.flow.proofs.Copies.{part_at}
 use Rattle.flow.proofs.Masks.{member_old, member_new}
 use Rattle.flow.proofs.Numbers.{Numbered, numbered}
 
 -- The numbers behind the bytes 13 before place i are in the set.
-pub record Hearing (b : List ℕ) (from to i s : ℕ) : Type 0 where
-  pub above : from ≤ i
-  pub below : i ≤ to
-  pub room : to ≤ length b
-  pub heard : (k : ℕ) → from ≤ k → k < i → k + 1 < to → get_or b k 0 ≡ 0x13 → get_or b (k + 1) 0 < most_procedures → member (get_or b (k + 1) 0) s ≡ true
+abbrev Heard : List ℕ → ℕ → ℕ → Type 0
+Heard body i s = (k : ℕ) → k < i → get_or body k 0 ≡ 0x13 → get_or body (k + 1) 0 < most_procedures → member (get_or body (k + 1) 0) s ≡ true
 
-pub hearing_none : (b : List ℕ) (from to : ℕ) → from ≤ to → to ≤ length b → Hearing b from to from 0
-hearing_none b from to l h = record { above = omega arith; below = l; room = h; heard = λ k f u. absurd (omega arith) }
+-- The windows that are left are of the body's end.
+pub record Hearing (body : List ℕ) (size : ℕ) (rest : List ℕ) (s : ℕ) : Type 0 where
+  pub size_is : size ≡ 2
+  pub long : length rest ≤ length body
+  pub rest_is : rest ≡ drop (length body - length rest) body
+  pub heard : Heard body (length body - length rest) s
 
--- One turn: what was in the set stays, and the number behind place i is in it if it has to be.
-hearing_more : {b : List ℕ} {from to i s s' : ℕ} → Hearing b from to i s → i + 1 < to →
-    ((r : ℕ) → member r s ≡ true → member r s' ≡ true) →
-    (get_or b i 0 ≡ 0x13 → get_or b (i + 1) 0 < most_procedures → member (get_or b (i + 1) 0) s' ≡ true) → Hearing b from to (i + 1) s'
-hearing_more {b} {from} {to} {i} {s} {s'} c l old new =
+-- A window whose first byte is 13: its number is put into the set.
+pub hearing_new : {body : List ℕ} (s t : Windows ℕ) {r : Option (Bor (List ℕ))} {w : Bor (List ℕ)} {m p m' : ℕ} →
+    Hearing body (windows_size s) (windows_rest s) m → r ≡ Some w → windows_steps s r t → p ≡ get_or w.now 1 0 → m' ≡ union m (single p) →
+    Hearing body (windows_size t) (windows_rest t) m'
+hearing_new {body} s t {r} {w} {m} {p} {m'} h e n u v =
+    let x = window_more body s t r w e n (omega (arith, h.size_is)) h.long h.rest_is in
     record {
-      above = omega (arith, c.above);
-      below = omega arith;
-      room = c.room;
-      heard = λ k f u v e w. go k f u v e w (ℕ_discrete k i);
+      size_is = n.0 ∙ h.size_is;
+      long = omega (arith, x.0, h.long);
+      rest_is = x.1;
+      heard = λ k l f q.
+          go k (omega (arith, x.0, h.long)) f q (u ∙ x.3 1 0 (omega (arith, h.size_is)))
+          (ℕ_discrete k (length body - length (windows_rest s)));
     }
   where
-    go : (k : ℕ) → from ≤ k → k < i + 1 → k + 1 < to → get_or b k 0 ≡ 0x13 → get_or b (k + 1) 0 < most_procedures → Dec (k ≡ i) →
-        member (get_or b (k + 1) 0) s' ≡ true
-    go k f u v e w (yes q) = rw q (new (rw q at e) (rw q at w))
-    go k f u v e w (no q) = old (get_or b (k + 1) 0) (c.heard k f (omega arith) v e w)
-
-pub hearing_new : {b : List ℕ} {from to i s t s' p : ℕ} → Hearing b from to i s → i + 1 < to → p ≡ get_or b (i + 1) 0 → t ≡ union s (single p) → s' ≡ t →
-    Hearing b from to (i + 1) s'
-hearing_new {b} {from} {to} {i} {s} {t} {s'} {p} c l e u v =
-    hearing_more c l (λ r h. rw (v, u) (member_old s p r h)) (λ f h. rw (v, u, ← e) (member_new s p))
-
-pub hearing_far : {b : List ℕ} {from to i s s' p : ℕ} → Hearing b from to i s → i + 1 < to → p ≡ get_or b (i + 1) 0 → most_procedures ≤ p → s' ≡ s →
-    Hearing b from to (i + 1) s'
-hearing_far c l e f u = hearing_more c l (λ r h. rw u h) (λ k h. absurd (omega arith))
-
-pub hearing_other : {b : List ℕ} {from to i s s' : ℕ} → Hearing b from to i s → i + 1 < to → (get_or b i 0 ≡ 0x13 → ⊥) → s' ≡ s →
-    Hearing b from to (i + 1) s'
-hearing_other c l f u = hearing_more c l (λ r h. rw u h) (λ k h. absurd (f k))
-
-pub hearing_done : {b : List ℕ} {from to i s : ℕ} → Hearing b from to i s → to ≤ i + 1 → BehindPost b from to s
-hearing_done c l = record { behind = λ k f u e w. c.heard k f (omega arith) u e w }
+    go : (k : ℕ) → k < length body - length (windows_rest s) + 1 → get_or body k 0 ≡ 0x13 → get_or body (k + 1) 0 < most_procedures →
+        p ≡ get_or body (length body - length (windows_rest s) + 1) 0 → Dec (k ≡ length body - length (windows_rest s)) →
+        member (get_or body (k + 1) 0) m' ≡ true
+    go k l f q y (yes d) = rw (d, ← y, v) (member_new m p)
+    go k l f q y (no d) = rw v (member_old m p (get_or body (k + 1) 0) (h.heard k (omega arith) f q))
 
 -- The bodies follow one another up to the book's end, so each ends within it.
 turn_below : (at : ℕ) (es : List Entry) (end : ℕ) → in_turn at es end ≡ true → at ≤ end
@@ -109,32 +102,37 @@ scanning_none g e =
 -- Where body p begins and how long it is.
 pub record Spanned (b : List ℕ) (n p at bytes : ℕ) : Type 0 where
   pub known : p < n
-  pub offset : at ≡ pair b (1 + 6 * p)
-  pub length_is : bytes ≡ pair b (1 + 6 * p + 2)
+  pub offset : at ≡ (entry b p).offset
+  pub length_is : bytes ≡ (entry b p).bytes
 
 pub body_ends : {b called : List ℕ} {n p at bytes : ℕ} → Scanning b n p called → Spanned b n p at bytes → at + bytes ≤ length b
 body_ends {b} {called} {n} {p} s t = omega (arith, body_within s.counted.book p (omega (arith, s.counted.is, t.known)), t.offset, t.length_is)
 
-pub body_fits : {b called : List ℕ} {n p at bytes : ℕ} → Scanning b n p called → Spanned b n p at bytes → Fits w64 (at + bytes)
-body_fits s t = let h = body_ends s t in record { fits = omega (arith, s.counted.short) }
-
 -- What body p may call is told by its own set, and the sets of the others stay.
-pub scanning_more : {b called : List ℕ} {n p at bytes r : ℕ} → Scanning b n p called → Spanned b n p at bytes → BehindPost b at (at + bytes) r →
-    Scanning b n (p + 1) (set called p r)
+pub scanning_more : {b called : List ℕ} {n p at bytes r : ℕ} → Scanning b n p called → Spanned b n p at bytes →
+    BehindPost (take (at + bytes - at) (drop at b)) r → Scanning b n (p + 1) (set called p r)
 scanning_more {b} {called} {n} {p} {at} {bytes} {r} s t z =
     record { counted = s.counted; long = length-set called p r ∙ s.long; heard = λ q i h u v w x. go q i h u v w x (ℕ_discrete q p) }
   where
+    size : at + bytes - at ≡ bytes
+    size = omega arith
+
+    long : length (take (at + bytes - at) (drop at b)) ≡ bytes
+    long = length-take-le (at + bytes - at) (drop at b) (simp length-drop (omega (arith, body_ends s t))) ∙ size
+
+    own : (i : ℕ) → at ≤ i → i + 1 < at + bytes → get_or b i 0 ≡ 0x13 → get_or b (i + 1) 0 < most_procedures → member (get_or b (i + 1) 0) r ≡ true
+    own i u v w x =
+        let e : get_or (take (at + bytes - at) (drop at b)) (i - at) 0 ≡ get_or b i 0 =
+        part_at b at (at + bytes - at) (i - at) (omega arith) ∙ ap (λ (k : ℕ). get_or b k 0) (omega arith) in
+        let f : get_or (take (at + bytes - at) (drop at b)) (i - at + 1) 0 ≡ get_or b (i + 1) 0 =
+        part_at b at (at + bytes - at) (i - at + 1) (omega arith) ∙ ap (λ (k : ℕ). get_or b k 0) (omega arith) in
+        rw f at (z.behind (i - at) (omega (arith, long)) (e ∙ w) (rw f x))
+
     go : (q i : ℕ) → q < p + 1 → (entry b q).offset ≤ i → i + 1 < (entry b q).offset + (entry b q).bytes →
         get_or b i 0 ≡ 0x13 → get_or b (i + 1) 0 < most_procedures → Dec (q ≡ p) → named (set called p r) q (get_or b (i + 1) 0) ≡ true
     go q i h u v w x (yes d) =
         let o : (entry b q).offset ≡ (entry b p).offset = ap (λ (k : ℕ). (entry b k).offset) d in
         let y : (entry b q).bytes ≡ (entry b p).bytes = ap (λ (k : ℕ). (entry b k).bytes) d in
-        let m = z.behind i (omega (arith, t.offset)) (omega (arith, t.offset, t.length_is)) w x in
+        let m = own i (omega (arith, t.offset)) (omega (arith, t.offset, t.length_is)) w x in
         rw (d, get_or-set_same called p r 0 (omega (arith, s.long, s.counted.few, t.known))) m
     go q i h u v w x (no d) = rw (get_or-set_other called p q r 0 d) (s.heard q i (omega arith) u v w x)
-
-pub scanning_done : {b called : List ℕ} {n p : ℕ} → Scanning b n p called → n ≤ p → ScanPost b called
-scanning_done s l =
-    let f = s.counted.few in
-    let e = s.counted.is in
-    record { scanned = record { named = λ q i h u v w x. s.heard q i (omega arith) u v w (omega arith) } }

@@ -6,7 +6,6 @@ use mathlib.Core.List.{List}
 use Prim.Native.Nat.{ℕ, suc, ◌+◌, ◌*◌, ◌-◌, ◌≤◌, ◌<◌}
 use native.Mathlib.Omega.{arith}
 use native.Mathlib.Numerals.{add-one}
-use lib.Dec.{eqb}
 use lib.ListN.{length, get_or, take, replicate, length-replicate, get_or-replicate}
 use lib.Seq.{ext_get_or, get_or-take, length-take-le}
 use Rattle.meaning.specs.Limits.{most_procedures, most_parameters}
@@ -21,13 +20,14 @@ use Rattle.meaning.proofs.Finder.{rounds_last, rounds_more, length_found}
 use Rattle.meaning.proofs.Skipping.{asked, Rest, rest_grow, rest_next, callees_scanned}
 use Rattle.meaning.proofs.Elsewhere.{asked_placed, rows_kept}
 use Rattle.meaning.proofs.Fronts.{SameSets, demands_front, asked_front, legal_front, woken_front, grow_front}
-use Rattle.book.proofs.Readable.{BookHere}
+use Rattle.book.specs.Here.{BookHere}
 use Rattle.book.proofs.Sound.{book_facts, size_of}
 use Rattle.flow.specs.Copies.{most_places, Holds, Stored, Same}
 use Rattle.flow.specs.Rounds.{RoundPost, Begins}
 use Rattle.flow.specs.Legality.{LegalPost}
-use Rattle.flow.specs.Waking.{walked, named, ScanPost, PassPre, PassPost, Kept, WakePre, WakePost}
-use Rattle.flow.specs.Settling.{Sized, SettlePre, SettlePost, SatisfiedPost, LaterPre, LaterPost}
+use Rattle.flow.specs.Waking.{walked, named, ScanPost, PassPost, Kept, WakePost}
+use Rattle.book.specs.Here.{Sized}
+use Rattle.flow.specs.Settling.{SettlePre, SettlePost, SatisfiedPost, LaterPre, LaterPost}
 
 -- The bytes are readable as one book.
 pub one_book : {b : List ℕ} (g h : BookHere b) → g.book ≡ h.book
@@ -106,13 +106,13 @@ module _ {b : List ℕ} (g : BookHere b) where
         go (inr p) = p ∙ sym (met_not (s.unequal p))
 
 -- The checker's two tests.
-pub satisfied_not : {b σ old : List ℕ} {r : Bool} → Holds old σ → LegalPost b old r → r ≡ false → SatisfiedPost b σ false
+pub satisfied_not : {b σ old : List ℕ} {r : Bool} → Holds old σ → LegalPost b old r → r ≡ false → SatisfiedPost b σ r
 unfolding satisfies
 satisfied_not {b} {σ} h z e =
     record {
       is = λ g.
           let n : legal g.book σ ≡ false = sym (legal_front (sets h) g.book) ∙ sym (z.is g) ∙ e in
-          rw n (sym (and-false (meets σ (demands g.book σ))));
+          rw (e, n) (sym (and-false (meets σ (demands g.book σ))));
     }
 
 pub satisfied_same : {b σ old new starts : List ℕ} {r t : Bool} → SettlePre b σ → Holds old σ → RoundPost b old old new starts →
@@ -129,7 +129,7 @@ satisfied_same {b} {σ} c h z k e s =
 -- After n rounds, of which there was one at least: `old` holds the summary before the last of them and `new` the one after it.
 -- The rounds that are left end where all of them do, and the last round has left the rows of the procedures that it did not walk.
 -- `bound` is the size of the book's summaries: only so many places are compared.
-pub record Settling (n : ℕ) (b starts called : List ℕ) (bound most : ℕ) (old new walks : List ℕ) : Type 0 where
+pub record Settling (n : ℕ) (b starts called : List ℕ) (bound most : ℕ) (old new : List ℕ) (walks : List Bool) : Type 0 where
   pub book : BookHere b
   pub bound_is : bound ≡ size book.book
   pub begins : Begins b starts
@@ -155,19 +155,18 @@ later_post {b} {new} {n} {σ} g h e =
     }
 
 -- The first round walks every body.
-all_walked : {b : List ℕ} → BookHere b → (σ τ : List ℕ) → Kept b σ τ (replicate most_procedures 1)
+all_walked : {b : List ℕ} → BookHere b → (σ τ : List ℕ) → Kept b σ τ (replicate most_procedures true)
 all_walked g σ τ =
     record {
       rows = λ f p l w k i j.
           let m : p < most_procedures = omega (arith, (book_facts g).few) in
-          let y : ◌≡◌ {A = ℕ} (get_or (replicate most_procedures 1) p 0) 1 = get_or-replicate most_procedures p 1 0 m in
-          let x : eqb 1 1 ≡ false = rw y at w in
+          let y : get_or (replicate most_procedures true) p false ≡ true = get_or-replicate most_procedures p true false m in
           let z : ◌≡◌ {A = ℕ} 0 1 = cc in
           absurd (omega arith);
     }
 
 pub settling_first : {b new starts called : List ℕ} {n : ℕ} → LaterPre b new starts n → ScanPost b called →
-    Settling 1 b starts called n (most_parameters * n + 1) (replicate most_places 0) new (replicate most_procedures 1)
+    Settling 1 b starts called n (most_parameters * n + 1) (replicate most_places 0) new (replicate most_procedures true)
 unfolding find empty most_rounds
 settling_first {b} {new} {starts} {called} {n} c s =
     let g = c.sized.book in
@@ -192,30 +191,21 @@ settling_first {b} {new} {starts} {called} {n} c s =
       kept = all_walked g (replicate most_places 0) new;
     }
 
--- What the functions that a turn calls ask.
-pub settling_wake : {b starts called old new walks : List ℕ} {bound most n : ℕ} → Settling n b starts called bound most old new walks →
-    WakePre b old new starts walks
-settling_wake s =
-    record { round = record { book = s.book; old_wide = s.before.wide; new_wide = s.after.wide }; begins = s.begins; kept = s.kept }
-
-pub settling_pass : {b starts called old new walks : List ℕ} {bound most n : ℕ} → Settling n b starts called bound most old new walks →
-    PassPre b new new starts
-settling_pass s =
-    record { round = record { book = s.book; old_wide = s.after.wide; new_wide = s.after.wide }; begins = s.begins }
-
-pub settling_out : {b starts called old new walks : List ℕ} {bound most n : ℕ} → Settling n b starts called bound most old new walks → most ≤ n →
-    LaterPost b new n
+-- There are no more rounds than most.
+pub settling_out : {b starts called old new : List ℕ} {walks : List Bool} {bound most n : ℕ} → Settling n b starts called bound most old new walks → most ≤ n →
+    LaterPost b new most
 unfolding rounds
-settling_out {most} {n} s l =
+settling_out {new = new} {most = most} {n} s l =
+    let e : n ≡ most = omega (arith, s.few) in
     let k : most - n ≡ 0 = omega arith in
-    later_post s.book s.after (rw k at s.goes)
+    rw e at (later_post s.book s.after (rw k at s.goes))
 
 -- The summary after the rounds so far.
-abbrev now : {b starts called old new walks : List ℕ} {bound most n : ℕ} → Settling n b starts called bound most old new walks → List ℕ
+abbrev now : {b starts called old new : List ℕ} {walks : List Bool} {bound most n : ℕ} → Settling n b starts called bound most old new walks → List ℕ
 now s = grow s.σ (demands s.book.book s.σ)
 
 -- One turn: the next mask, the round of the bodies that it names, and the comparison.
-module _ {b starts called old new walks walks' new' : List ℕ} {bound most n : ℕ} (s : Settling n b starts called bound most old new walks)
+module _ {b starts called old new new' : List ℕ} {walks walks' : List Bool} {bound most n : ℕ} (s : Settling n b starts called bound most old new walks)
     (w : WakePost b old new called walks') (p : PassPost b new new walks' new') where
   -- The bodies that the mask leaves out add nothing: so the round of the others is the whole round.
   turn_rest : Rest s.book.book (walked walks') (now s)
@@ -266,7 +256,7 @@ module _ {b starts called old new walks walks' new' : List ℕ} {bound most n : 
         (rw add-one (sym (rounds_last s.book.book (most - suc n) (now s) n (sym met ∙ u)) ∙ (rw left at s.goes)))
 
 -- `turn_next` with its premises in the order in which `search` finds them there: in the other it breaks off.
-pub settling_next : {b starts called old new walks walks' new' : List ℕ} {bound most n : ℕ} {t : Bool} → t ≡ false → Same new new' bound t →
+pub settling_next : {b starts called old new new' : List ℕ} {walks walks' : List Bool} {bound most n : ℕ} {t : Bool} → t ≡ false → Same new new' bound t →
     PassPost b new new walks' new' → WakePost b old new called walks' → Settling n b starts called bound most old new walks → n < most →
     Settling (n + 1) b starts called bound most new new' walks'
 settling_next u d p w s l = turn_next s w p l d u
@@ -277,16 +267,6 @@ settle_others z e f = rw (e, f) z
 
 -- The first round, from all sets empty: the last, or others come after it.
 module _ {b σ new starts : List ℕ} (c : SettlePre b σ) (z : RoundPost b (replicate most_places 0) (replicate most_places 0) new starts) where
-  pub settle_later : {t : Bool} → Same (replicate most_places 0) new (length σ) t → t ≡ false → LaterPre b new starts (length σ)
-  settle_later d u =
-      record {
-        sized = record { book = c.book; size_is = c.sized };
-        begins = z.begins;
-        wide = z.wide;
-        first = z.added;
-        grown = d.unequal u;
-      }
-
   pub settle_once : {new' : List ℕ} {n : ℕ} {t : Bool} → Same (replicate most_places 0) new (length σ) t → t ≡ true → new' ≡ new → n ≡ 1 →
       LaterPost b new' n
   unfolding find empty most_rounds
@@ -300,9 +280,6 @@ module _ {b σ new starts : List ℕ} (c : SettlePre b σ) (z : RoundPost b (rep
       let m = same_met g c.sized l k h (d.equal u) in
       settle_others
       (later_post g (met_holds g c.sized l k h m) (rw e (sym (rounds_last g.book (most_parameters * size g.book) σ₀ 0 m)))) i
-
-pub settle_wide : {b new new' : List ℕ} {n : ℕ} → BookHere b → LaterPost b new n → new' ≡ new → length new' ≡ most_places
-settle_wide g z e = ap length e ∙ (z.found g).wide
 
 -- The summary that the array holds is its front.
 pub settle_stored : {b σ new σ' : List ℕ} {n : ℕ} → SettlePre b σ → LaterPost b new n → Stored new σ σ' → SettlePost b σ' n

@@ -7,10 +7,10 @@ use native.Mathlib.Omega.{arith}
 use lib.ListN.{length, get_or}
 use Rattle.meaning.specs.Reading.{procedures}
 use Rattle.meaning.proofs.Places.{row_of}
-use Rattle.book.proofs.Readable.{BookHere}
+use Rattle.book.specs.Here.{BookHere}
 use Rattle.book.proofs.Sound.{procedure_view, size_of}
 use Rattle.flow.specs.Copies.{most_places}
-use Rattle.flow.specs.Rounds.{Begins}
+use Rattle.flow.specs.Rounds.{Begins, Rowed}
 use Rattle.flow.proofs.Spans.{rows_next, rows_below, size_rows}
 use Rattle.flow.proofs.Numbers.{Numbered}
 
@@ -33,14 +33,10 @@ pub end_is : {b starts : List ℕ} → Begins b starts → (g : BookHere b) (p :
 end_is c g p h = c.at g (p + 1) (omega arith) ∙ ap (row_at g) (add-one p)
 
 -- The same of the numbers in the table.
-pub record Rowed (starts : List ℕ) (p : ℕ) : Type 0 where
-  pub on : get_or starts p 0 ≤ get_or starts (p + 1) 0
-  pub fit : get_or starts (p + 1) 0 ≤ most_places
-
 pub rowed : {b starts : List ℕ} {n p : ℕ} → Begins b starts → Numbered b n → p < n → Rowed starts p
 rowed {b} {starts} {n} {p} c u h =
     let g = u.book in
     let k : p < procedures b = omega (arith, u.is) in
     let i = begin_is c g p k in
     let j = end_is c g p k in
-    record { on = omega (arith, rows_on g p k); fit = omega (arith, rows_fit g (suc p)) }
+    record { known = omega (arith, u.few); on = omega (arith, rows_on g p k); fit = omega (arith, rows_fit g (suc p)) }

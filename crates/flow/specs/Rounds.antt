@@ -1,14 +1,14 @@
 -- What a round asks and gives, for whatever book the bytes are readable as. The summaries are as long as any.
-use Rattle.std.specs.Prelude.{◌≡◌, List, ℕ, ◌+◌, ◌*◌, ◌≤◌, ◌<◌, length, get_or}
+use Rattle.std.specs.Prelude.{◌≡◌, List, ℕ, ◌+◌, ◌-◌, ◌*◌, ◌≤◌, ◌<◌, length, get_or, take, drop}
 use Rattle.std.proofs.Math.Option.{some}
 use Rattle.std.proofs.Math.ListN.{get_elem?}
-use Rattle.meaning.specs.Limits.{most_parameters, most_locals, entry_bytes}
+use Rattle.meaning.specs.Limits.{most_procedures, most_parameters, most_locals, entry_bytes}
 use Rattle.meaning.specs.Sets.{empty}
 use Rattle.meaning.specs.Tree.{Procedure, variables, loops_of}
 use Rattle.meaning.specs.Reading.{entry, procedures}
 use Rattle.meaning.specs.Flow.{by_sets, start_sets, ends as returned, demands, grow}
 use Rattle.meaning.proofs.Places.{row_of}
-use Rattle.book.proofs.Readable.{BookHere}
+use Rattle.book.specs.Here.{BookHere}
 use Rattle.flow.specs.Copies.{most_places}
 
 -- The bytes are readable, and both summaries have room for any.
@@ -20,6 +20,16 @@ pub record RoundPre (b σ new : List ℕ) : Type 0 where
 -- Where the rows of each procedure begin, and where the last end.
 pub record Begins (b starts : List ℕ) : Type 0 where
   pub at : (g : BookHere b) (p : ℕ) → p ≤ procedures b → get_or starts p 0 ≡ row_of (length g.book) g.book p
+
+-- The rows of procedure p lie within the places.
+pub record Rowed (starts : List ℕ) (p : ℕ) : Type 0 where
+  pub known : p < most_procedures
+  pub on : get_or starts p 0 ≤ get_or starts (p + 1) 0
+  pub fit : get_or starts (p + 1) 0 ≤ most_places
+
+-- The rows of procedure p in a summary.
+abbrev pub rows_of : List ℕ → List ℕ → ℕ → List ℕ
+rows_of σ starts p = take (get_or starts (p + 1) 0 - get_or starts p 0) (drop (get_or starts p 0) σ)
 
 -- A round adds all demands, and tells where the rows begin.
 pub record RoundPost (b σ new new' starts : List ℕ) : Type 0 where

@@ -1,14 +1,9 @@
 -- The checker's test and the finder's rounds: what they ask and give.
 use Rattle.std.specs.Prelude.{◌≡◌, Bool, List, ℕ, ◌<◌, length, replicate}
 use Rattle.meaning.specs.Flow.{at, satisfies, demands, grow, size, find}
-use Rattle.book.proofs.Readable.{BookHere}
+use Rattle.book.specs.Here.{BookHere, Sized}
 use Rattle.flow.specs.Copies.{most_places, Holds}
 use Rattle.flow.specs.Rounds.{Begins}
-
--- The bytes are readable, and the book's summaries have this size.
-pub record Sized (b : List ℕ) (n : ℕ) : Type 0 where
-  pub book : BookHere b
-  pub size_is : n ≡ size book.book
 
 -- The bytes are readable, and the summary has the size.
 pub record SettlePre (b σ : List ℕ) : Type 0 where
@@ -34,10 +29,3 @@ pub record LaterPre (b new starts : List ℕ) (n : ℕ) : Type 0 where
 pub record LaterPost (b new : List ℕ) (n : ℕ) : Type 0 where
   pub found : (g : BookHere b) → Holds new (find g.book).summary
   pub rounds_are : (g : BookHere b) → n ≡ (find g.book).rounds
-
--- A refusal writes nothing.
-pub record Refused (number : ℕ) (buffer : List ℕ) (refusal size rounds : ℕ) (after : List ℕ) : Type 0 where
-  pub refusal_is : refusal ≡ number
-  pub size_is : size ≡ 0
-  pub rounds_is : rounds ≡ 0
-  pub buffer_is : after ≡ buffer

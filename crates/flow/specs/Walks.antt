@@ -1,5 +1,6 @@
 -- What the walk's functions ask and give. Each is asked where a tree stands, and what it gives is said of whatever tree stands there.
 use Rattle.std.specs.Prelude.{◌≡◌, List, ℕ, ◌+◌, ◌*◌, ◌≤◌, ◌<◌, length, get_or, take}
+use Rattle.std.proofs.Math.Logic.{◌⊎◌}
 use Rattle.meaning.specs.Tree.{loops, loops_in, loops_of}
 use Rattle.meaning.specs.Flow.{Walk, by_sets, after, afters, needs, needs_in, ends as returned, arriving, grow}
 use Rattle.book.proofs.Text.{CmdHere, RunHere, ClosingHere}
@@ -7,6 +8,7 @@ use Rattle.flow.specs.Rows.{most_variables, Wide, Held}
 use Rattle.flow.specs.Copies.{most_places}
 use Rattle.flow.specs.Exprs.{within, Contents}
 use Rattle.flow.specs.Packed.{at_in, row_in}
+use Rattle.flow.specs.declared.walk.Walk.{Walk as Lent}
 
 -- What a walk goes by: the book, the summary as it stood, and how many variables the procedure has.
 pub record Going : Type 0 where
@@ -16,6 +18,10 @@ pub record Going : Type 0 where
 
 abbrev pub going : List ℕ → List ℕ → ℕ → Going
 going b σ w = record { book = b; old = σ; width = w }
+
+-- The same of the struct that the functions are lent.
+abbrev pub by : Lent → Going
+by z = going z.book.now z.old.now z.w
 
 -- Where a walk stands: its place in the book, the place of the next row, the new summary and the variables' sets.
 pub record Standing : Type 0 where
@@ -161,3 +167,51 @@ pub record ClosingPost (G : Going) (p g : ℕ) (S : Standing) (new' : List ℕ) 
 
 pub record ClosingAnswer (G : Going) (p g : ℕ) (S : Standing) (new' : List ℕ) (r : ℕ) : Type 0 where
   pub is : ClosingPost G p g S new' (at_in r) (row_in r)
+
+-- The commands that are left do to the sets at hand and to the summary so far what the whole run does from the start.
+pub record RunLeft (G : Going) (g : ℕ) (S T : Standing) (x : RunAt G S) : Type 0 where
+  pub here : RunAt G T
+  pub added : grow T.new (needs_in here.tree (rules G) (used G T) g) ≡ grow S.new (needs_in x.tree (rules G) (used G S) g)
+  pub sets : afters here.tree (rules G) (used G T) g ≡ afters x.tree (rules G) (used G S) g
+  pub ends : here.next ≡ x.next
+  pub rows : T.row + G.width * loops_in here.tree ≡ S.row + G.width * loops_in x.tree
+
+-- From S the walk of a run has come to T.
+pub record Running (G : Going) (g : ℕ) (S T : Standing) : Type 0 where
+  pub pre : RunPre G S
+  pub there : T.at < length G.book
+  pub row : T.row ≤ length G.old
+  pub wide : Wide T.sets
+  pub long : length T.new ≡ length S.new
+  pub on : S.at ≤ T.at
+  pub left : (x : RunAt G S) → RunLeft G g S T x
+
+-- What is left of a closing sequence does to the sets at hand and to the summary so far what the whole does from the start.
+pub record ClosingLeft (G : Going) (p g : ℕ) (S T : Standing) (x : ClosingAt G S) : Type 0 where
+  pub here : ClosingAt G T
+  pub added : grow T.new (returned here.tree (rules G) p (used G T) g) ≡ grow S.new (returned x.tree (rules G) p (used G S) g)
+  pub ends : here.next ≡ x.next
+  pub rows : T.row + G.width * loops_of here.tree ≡ S.row + G.width * loops_of x.tree
+
+-- From S the walk of a closing sequence has come to T.
+pub record Nearing (G : Going) (p g : ℕ) (S T : Standing) : Type 0 where
+  pub pre : ClosingPre G p S
+  pub there : T.at < length G.book
+  pub wide : Wide T.sets
+  pub long : length T.new ≡ length S.new
+  pub on : S.at ≤ T.at
+  pub left : (x : ClosingAt G S) → ClosingLeft G p g S T x
+
+-- Commands stand there: those of a run, or those of a closing sequence before its closing command.
+pub record CommandsPre (G : Going) (S : Standing) : Type 0 where
+  pub p : ℕ
+  pub is : RunPre G S ⊎ ClosingPre G p S
+
+-- The walk has come from S to T, where no command stands.
+pub record CommandsPost (G : Going) (g : ℕ) (S T : Standing) : Type 0 where
+  pub run : RunPre G S → Running G g S T
+  pub closing : (p : ℕ) → ClosingPre G p S → Nearing G p g S T
+  pub ended : (get_or G.book T.at 0 ≡ 0x00) ⊎ (0x03 < get_or G.book T.at 0)
+
+pub record CommandsAnswer (G : Going) (g : ℕ) (S : Standing) (new' sets' : List ℕ) (r : ℕ) : Type 0 where
+  pub is : CommandsPost G g S (standing (at_in r) (row_in r) new' sets')

@@ -1,37 +1,31 @@
 // An assignment: the variables' sets after it.
 ghost use Rattle.flow.specs.Walks.{AssignPre, AssignPost};
 
-use crate::copy::PLACES;
 use crate::expr::expr;
-use crate::packed::{next_in, under};
-use crate::row::{WIDTH, replace};
+use crate::row::{Row, replace};
+use crate::walk::Walk;
 use book::bytes::number;
+use book::codes::{CONSTANT, VARIABLE};
 use sets::Bits;
 
 // The expression's set and the guard replace the variable's set; answers where the next part begins.
-pub fn assign(
-    book: &[u8],
-    old: &[Bits; PLACES],
-    at: usize,
-    sets: &mut [Bits; WIDTH],
-    guard: Bits,
-) -> usize
-    requires { AssignPre book.now old.now at sets.old }
-    ensures { AssignPost book.now old.now at sets.old guard sets.new result }
+pub fn assign(walk: &Walk, at: usize, sets: &mut Row, guard: Bits) -> usize
+    requires { AssignPre walk.now.book.now walk.now.old.now at sets.old }
+    ensures { AssignPost walk.now.book.now walk.now.old.now at sets.old guard sets.new result }
 {
-    let x = number(book[at + 1]);
-    let code = book[at + 2];
-    if code == 0x11 {
-        let y = number(book[at + 3]);
+    let x = number(walk.book[at + 1]);
+    let code = walk.book[at + 2];
+    if code == VARIABLE {
+        let y = number(walk.book[at + 3]);
         let set = sets[y] | guard;
         replace(sets, x, set);
         return at + 4;
     }
-    if code == 0x10 {
+    if code == CONSTANT {
         replace(sets, x, guard);
         return at + 7;
     }
-    let value = expr(book, old, at + 2, sets);
-    replace(sets, x, under(value, guard));
-    next_in(value)
+    let value = expr(walk, at + 2, sets);
+    replace(sets, x, value.under(guard));
+    value.next()
 }

@@ -1,92 +1,59 @@
 // What a closing sequence adds to the summary: its loops' rows, and the result set of procedure p.
-ghost use Rattle.flow.specs.Walks.{going, standing, ClosingPre, ClosingCodedPre, ClosingAnswer};
+ghost use Rattle.flow.specs.Walks.{by, standing, ClosingPre, ClosingCodedPre, ClosingAnswer};
 
-use crate::assign::assign;
-use crate::command::nested;
-use crate::copy::PLACES;
+use crate::command::commands;
+use crate::copy::Places;
 use crate::expr::expr;
-use crate::packed::{at_in, inner, next_in, placed, row_in, under};
-use crate::row::WIDTH;
+use crate::packed::Place;
+use crate::row::Row;
+use crate::walk::Walk;
+use book::codes::GIVE;
 use sets::Bits;
 
-// The ordinary commands one after another, up to the closing command.
+// The ordinary commands, and the closing command.
 #[cycle(closings)]
 pub fn closing(
-    book: &[u8],
-    old: &[Bits; PLACES],
-    new: &mut [Bits; PLACES],
+    walk: &Walk,
+    new: &mut Places,
     at: usize,
     row: usize,
-    w: usize,
-    p: usize,
-    sets: &mut [Bits; WIDTH],
+    sets: &mut Row,
     guard: Bits,
-) -> u64
-    requires { ClosingPre (going book.now old.now w) p (standing at row new.old sets.old) }
-    ensures { ClosingAnswer (going book.now old.now w) p
+) -> Place
+    requires { ClosingPre (by walk.now) walk.now.p (standing at row new.old sets.old) }
+    ensures { ClosingAnswer (by walk.now) walk.now.p
         guard (standing at row new.old sets.old) new.new result }
 {
-    let mut row = row;
-    let mut at = at;
-    loop {
-        let code = book[at];
-        if code == 0x04 {
-            return give(book, old, new, at, row, w, p, sets, guard);
-        }
-        if code == 0x05 {
-            return pick(book, old, new, at, row, w, p, sets, guard);
-        }
-        if code == 0x01 {
-            at = assign(book, old, at, sets, guard);
-            continue;
-        }
-        let one = nested(book, old, new, at, row, w, sets, guard);
-        row = row_in(one);
-        at = at_in(one);
+    let last = commands(walk, new, at, row, sets, guard);
+    let at = last.at();
+    let code = walk.book[at];
+    if code == GIVE {
+        return give(walk, new, at, last.row(), sets, guard);
     }
+    pick(walk, new, at, last.row(), sets, guard)
 }
 
 // The returned set and the guard must lie in the result set.
-fn give(
-    book: &[u8],
-    old: &[Bits; PLACES],
-    new: &mut [Bits; PLACES],
-    at: usize,
-    row: usize,
-    w: usize,
-    p: usize,
-    sets: &[Bits; WIDTH],
-    guard: Bits,
-) -> u64
-    requires { ClosingCodedPre 0x04 (going book.now old.now w) p (standing at row new.old sets.now) }
-    ensures { ClosingAnswer (going book.now old.now w) p
+fn give(walk: &Walk, new: &mut Places, at: usize, row: usize, sets: &Row, guard: Bits) -> Place
+    requires { ClosingCodedPre 0x04 (by walk.now) walk.now.p (standing at row new.old sets.now) }
+    ensures { ClosingAnswer (by walk.now) walk.now.p
         guard (standing at row new.old sets.now) new.new result }
 {
-    let value = expr(book, old, at + 1, sets);
-    new[p] = new[p] | under(value, guard);
-    placed(next_in(value), row)
+    let value = expr(walk, at + 1, sets);
+    new[walk.p] = new[walk.p] | value.under(guard);
+    Place::new(value.next(), row)
 }
 
 // Both closing sequences start from the same sets, with the condition's set in the guard.
 #[cycle(closings)]
-fn pick(
-    book: &[u8],
-    old: &[Bits; PLACES],
-    new: &mut [Bits; PLACES],
-    at: usize,
-    row: usize,
-    w: usize,
-    p: usize,
-    sets: &mut [Bits; WIDTH],
-    guard: Bits,
-) -> u64
-    requires { ClosingCodedPre 0x05 (going book.now old.now w) p (standing at row new.old sets.old) }
-    ensures { ClosingAnswer (going book.now old.now w) p
+fn pick(walk: &Walk, new: &mut Places, at: usize, row: usize, sets: &mut Row, guard: Bits) -> Place
+    requires { ClosingCodedPre 0x05 (by walk.now) walk.now.p (standing at row new.old sets.old) }
+    ensures { ClosingAnswer (by walk.now) walk.now.p
         guard (standing at row new.old sets.old) new.new result }
 {
-    let test = expr(book, old, at + 1, sets);
-    let both = inner(guard, test);
+    let test = expr(walk, at + 1, sets);
+    let both = test.under(guard);
     let mut other = *sets;
-    let yes = closing(book, old, new, next_in(test), row, w, p, &mut other, both);
-    closing(book, old, new, at_in(yes), row_in(yes), w, p, sets, both)
+    let yes = closing(walk, new, test.next(), row, &mut other, both);
+    closing(walk, new, yes.at(), yes.row(), sets, both)
 }

@@ -1,57 +1,55 @@
 // Ifs, loops and runs: the variables' sets after them, and what their loops add to the summary.
-ghost use Rattle.flow.specs.Walks.{going, standing, NestedPre, CmdCodedPre, LoopPre, CmdAnswer, RunPre, RunAnswer};
+ghost use Rattle.flow.specs.Walks.{by, standing, NestedPre, CmdCodedPre, LoopPre, CmdAnswer, RunPre, RunAnswer, CommandsPre, CommandsAnswer};
 
 use crate::assign::assign;
-use crate::copy::PLACES;
+use crate::copy::Places;
 use crate::expr::expr;
-use crate::packed::{at_in, inner, next_in, placed, row_in};
-use crate::row::{WIDTH, arrive, join};
+use crate::packed::Place;
+use crate::row::{Row, arrive, join};
+use crate::walk::Walk;
+use book::codes::{ASSIGN, BRANCH, LOOP, STOP};
 use sets::Bits;
 
 // An if or a loop.
 #[cycle(commands)]
-pub fn nested(
-    book: &[u8],
-    old: &[Bits; PLACES],
-    new: &mut [Bits; PLACES],
+fn nested(
+    walk: &Walk,
+    new: &mut Places,
     at: usize,
     row: usize,
-    w: usize,
-    sets: &mut [Bits; WIDTH],
+    sets: &mut Row,
     guard: Bits,
-) -> u64
-    requires { NestedPre (going book.now old.now w) (standing at row new.old sets.old) }
-    ensures { CmdAnswer (going book.now old.now w)
+) -> Place
+    requires { NestedPre (by walk.now) (standing at row new.old sets.old) }
+    ensures { CmdAnswer (by walk.now)
         guard (standing at row new.old sets.old) new.new sets.new result }
 {
-    let code = book[at];
-    if code == 0x02 {
-        return branch(book, old, new, at, row, w, sets, guard);
+    let code = walk.book[at];
+    if code == BRANCH {
+        return branch(walk, new, at, row, sets, guard);
     }
-    repeat(book, old, new, at, row, w, sets, guard)
+    repeat(walk, new, at, row, sets, guard)
 }
 
 // Both runs start from the same sets, with the condition's set in the guard.
 #[cycle(commands)]
 fn branch(
-    book: &[u8],
-    old: &[Bits; PLACES],
-    new: &mut [Bits; PLACES],
+    walk: &Walk,
+    new: &mut Places,
     at: usize,
     row: usize,
-    w: usize,
-    sets: &mut [Bits; WIDTH],
+    sets: &mut Row,
     guard: Bits,
-) -> u64
-    requires { CmdCodedPre 0x02 (going book.now old.now w) (standing at row new.old sets.old) }
-    ensures { CmdAnswer (going book.now old.now w)
+) -> Place
+    requires { CmdCodedPre 0x02 (by walk.now) (standing at row new.old sets.old) }
+    ensures { CmdAnswer (by walk.now)
         guard (standing at row new.old sets.old) new.new sets.new result }
 {
-    let test = expr(book, old, at + 1, sets);
-    let both = inner(guard, test);
+    let test = expr(walk, at + 1, sets);
+    let both = test.under(guard);
     let mut other = *sets;
-    let yes = run(book, old, new, next_in(test), row, w, sets, both);
-    let no = run(book, old, new, at_in(yes), row_in(yes), w, &mut other, both);
+    let yes = run(walk, new, test.next(), row, sets, both);
+    let no = run(walk, new, yes.at(), yes.row(), &mut other, both);
     join(sets, &other);
     no
 }
@@ -59,64 +57,69 @@ fn branch(
 // The condition and the loop's body start from the row of the old summary, and that row is what the loop leaves.
 #[cycle(commands)]
 fn repeat(
-    book: &[u8],
-    old: &[Bits; PLACES],
-    new: &mut [Bits; PLACES],
+    walk: &Walk,
+    new: &mut Places,
     at: usize,
     row: usize,
-    w: usize,
-    sets: &mut [Bits; WIDTH],
+    sets: &mut Row,
     guard: Bits,
-) -> u64
-    requires { LoopPre (going book.now old.now w) (standing at row new.old sets.old) }
-    ensures { CmdAnswer (going book.now old.now w)
+) -> Place
+    requires { LoopPre (by walk.now) (standing at row new.old sets.old) }
+    ensures { CmdAnswer (by walk.now)
         guard (standing at row new.old sets.old) new.new sets.new result }
 {
-    arrive(old, new, row, w, sets);
-    let test = expr(book, old, at + 1, sets);
+    arrive(walk.old, new, row, walk.w, sets);
+    let test = expr(walk, at + 1, sets);
     let body = run(
-        book,
-        old,
+        walk,
         new,
-        next_in(test),
-        row + w,
-        w,
+        test.next(),
+        row + walk.w,
         sets,
-        inner(guard, test),
+        test.under(guard),
     );
-    arrive(old, new, row, w, sets); // At the end of a turn.
+    arrive(walk.old, new, row, walk.w, sets); // At the end of a turn.
     body
 }
 
-// The commands of a run one after another, up to the byte that ends it.
+// The commands of a run, and the byte that ends it.
 #[cycle(commands)]
-fn run(
-    book: &[u8],
-    old: &[Bits; PLACES],
-    new: &mut [Bits; PLACES],
+fn run(walk: &Walk, new: &mut Places, at: usize, row: usize, sets: &mut Row, guard: Bits) -> Place
+    requires { RunPre (by walk.now) (standing at row new.old sets.old) }
+    ensures { RunAnswer (by walk.now)
+        guard (standing at row new.old sets.old) new.new sets.new result }
+{
+    let end = commands(walk, new, at, row, sets, guard);
+    Place::new(end.at() + 1, end.row())
+}
+
+// Commands one after another, up to the byte that ends a run or begins a closing command.
+#[cycle(commands)]
+pub fn commands(
+    walk: &Walk,
+    new: &mut Places,
     at: usize,
     row: usize,
-    w: usize,
-    sets: &mut [Bits; WIDTH],
+    sets: &mut Row,
     guard: Bits,
-) -> u64
-    requires { RunPre (going book.now old.now w) (standing at row new.old sets.old) }
-    ensures { RunAnswer (going book.now old.now w)
+) -> Place
+    requires { CommandsPre (by walk.now) (standing at row new.old sets.old) }
+    ensures { CommandsAnswer (by walk.now)
         guard (standing at row new.old sets.old) new.new sets.new result }
 {
     let mut row = row;
     let mut at = at;
     loop {
-        let code = book[at];
-        if code == 0x00 {
-            return placed(at + 1, row);
-        }
-        if code == 0x01 {
-            at = assign(book, old, at, sets, guard);
+        let code = walk.book[at];
+        if code == ASSIGN {
+            at = assign(walk, at, sets, guard);
             continue;
         }
-        let one = nested(book, old, new, at, row, w, sets, guard);
-        row = row_in(one);
-        at = at_in(one);
+        if code == STOP || LOOP < code {
+            return Place::new(at, row);
+        }
+        let one = nested(walk, new, at, row, sets, guard);
+        row = one.row();
+        at = one.at();
     }
 }

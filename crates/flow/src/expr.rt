@@ -4,92 +4,94 @@ ghost use Rattle.meaning.specs.Limits.{most_parameters};
 ghost use Rattle.meaning.specs.Sets.{gather as gathered};
 ghost use Rattle.flow.specs.Exprs.{ExprPre, CodedPre, ExprAnswer};
 
-use crate::copy::PLACES;
-use crate::packed::{flowed, next_in, set_in};
+use crate::packed::Flow;
 use crate::past::past;
-use crate::row::WIDTH;
+use crate::row::Row;
+use crate::walk::Walk;
 use book::bytes::number;
+use book::codes::{CONSTANT, OPERATION, VARIABLE};
+use book::entry::parameters;
+use book::limits::MOST_PARAMETERS;
 use sets::{Bits, Set};
 
 // The parts still open one after the other: an operation opens its operands.
 #[cycle(expressions)]
-pub fn expr(book: &[u8], old: &[Bits; PLACES], at: usize, sets: &[Bits; WIDTH]) -> u64
-    requires { ExprPre book.now old.now at }
-    ensures { ExprAnswer book.now old.now sets.now at result }
+pub fn expr(walk: &Walk, at: usize, sets: &Row) -> Flow
+    requires { ExprPre walk.now.book.now walk.now.old.now at }
+    ensures { ExprAnswer walk.now.book.now walk.now.old.now sets.now at result }
 {
     let mut at = at;
     let mut open: usize = 1;
     let mut set: Bits = 0;
     while 0 < open {
-        let code = book[at];
-        if code == 0x12 {
+        let code = walk.book[at];
+        if code == OPERATION {
             at += 2;
             open += 1;
             continue;
         }
         open -= 1;
-        if code == 0x11 {
-            let x = number(book[at + 1]);
+        if code == VARIABLE {
+            let x = number(walk.book[at + 1]);
             set = set | sets[x];
             at += 2;
             continue;
         }
-        if code == 0x10 {
+        if code == CONSTANT {
             at += 5;
             continue;
         }
-        let one = call(book, old, at, sets);
-        set = set | set_in(one);
-        at = next_in(one);
+        let one = call(walk, at, sets);
+        set = set | one.set();
+        at = one.next();
     }
-    flowed(set, at)
+    Flow::new(set, at)
 }
 
 // Only the argument sets whose position is in the callee's result set; the other arguments are passed over.
 #[cycle(expressions)]
-fn call(book: &[u8], old: &[Bits; PLACES], at: usize, sets: &[Bits; WIDTH]) -> u64
-    requires { CodedPre 0x13 book.now old.now at }
-    ensures { ExprAnswer book.now old.now sets.now at result }
+fn call(walk: &Walk, at: usize, sets: &Row) -> Flow
+    requires { CodedPre 0x13 walk.now.book.now walk.now.old.now at }
+    ensures { ExprAnswer walk.now.book.now walk.now.old.now sets.now at result }
 {
-    let p = number(book[at + 1]);
-    let n = number(book[1 + 6 * p + 4]);
-    let result = old[p];
+    let p = number(walk.book[at + 1]);
+    let n = parameters(walk.book, p);
+    let result = walk.old[p];
     if result == 0 {
-        return flowed(0, past(book, at + 2, n));
+        return Flow::new(0, past(walk.book, at + 2, n));
     }
-    let mut given = [0; ARGUMENTS];
+    let chosen = Set { bits: result };
+    let mut given = Given {
+        sets: [0; MOST_PARAMETERS],
+    };
     let mut next = at + 2;
     for i in 0..n {
-        if (Set { bits: result }).has(i) {
-            let one = expr(book, old, next, sets);
-            given[i] = set_in(one);
-            next = next_in(one);
+        if chosen.has(i) {
+            let one = expr(walk, next, sets);
+            given.sets[i] = one.set();
+            next = one.next();
         } else {
-            next = past(book, next, 1);
+            next = past(walk.book, next, 1);
         }
     }
-    let all = Given { sets: given };
-    flowed(all.gather(result, n), next)
+    Flow::new(given.gather(chosen, n), next)
 }
-
-// The most arguments of a call.
-const ARGUMENTS: usize = 8;
 
 // The argument sets of a call.
 #[derive(Clone, Copy)]
 struct Given {
-    sets: [Bits; ARGUMENTS],
+    sets: [Bits; MOST_PARAMETERS],
 }
 
 impl Given {
     // The union of those of the first n sets whose position is chosen.
-    fn gather(self, chosen: Bits, n: usize) -> Bits
+    fn gather(self, chosen: Set, n: usize) -> Bits
         requires { (n ≤ most_parameters) × (length self.sets ≡ most_parameters) }
         ensures { result ≡ gathered chosen (take n self.sets) }
     {
         let mut union: Bits = 0;
         for i in 0..n {
-            if (Set { bits: chosen }).has(i) {
+            if chosen.has(i) {
                 union = union | self.sets[i];
             }
         }

@@ -15,73 +15,61 @@ mod round;
 mod row;
 mod settle;
 mod wake;
+mod walk;
 
 ghost use Rattle.meaning.specs.Entries.{Checks, FindsIn};
-ghost use Rattle.flow.specs.Settling.{Sized, Refused};
+ghost use Rattle.refusals.specs.Numbers.{refusal, field};
 
 use crate::settle::{satisfied, settle};
-use book::read;
+use book::Book;
+use refusals::Refusal;
 
-// The checker: the refusal of a summary, 0 where it is accepted.
-pub fn check(book: &[u8], summary: &[u8]) -> u8
-    ensures { Checks book.now summary.now result }
+// The checker: whether a summary is accepted.
+pub fn check(book: &[u8], summary: &[u8]) -> Result<(), Refusal>
+    ensures { Checks book.now summary.now (refusal result) }
 {
-    let answer = read(book);
-    if answer.refusal != 0 {
-        return answer.refusal;
-    }
-    check_readable(book, answer.size, summary)
+    check_readable(Book::read(book)?, summary)
 }
 
-// The same for a book that is known to be readable, whose summaries have this size.
-pub fn check_readable(book: &[u8], size: usize, summary: &[u8]) -> u8
-    requires { Sized book.now size }
-    ensures { Checks book.now summary.now result }
+// The same for a book that is known to be readable.
+pub fn check_readable(book: Book, summary: &[u8]) -> Result<(), Refusal>
+    ensures { Checks book.entry.bytes.now summary.now (refusal result) }
 {
-    if summary.len() != size {
-        return 8;
+    if summary.len() != book.size {
+        return Err(Refusal::Size);
     }
-    if satisfied(book, summary) { 0 } else { 9 }
+    if satisfied(book.bytes, summary) {
+        Ok(())
+    } else {
+        Err(Refusal::Flow)
+    }
 }
 
-// The finder's answer: the refusal, 0 where there is none, the summary's size and the number of rounds.
-#[derive(Clone, Copy)]
-pub struct FindAnswer {
-    pub refusal: u8,
+// What the finder has found: the size of the least summary, and the number of rounds.
+#[derive(Clone, Copy, Debug, PartialEq, Eq)]
+pub struct Found {
     pub size: usize,
     pub rounds: usize,
 }
 
-impl FindAnswer {
-    // A refusal has every other field 0, and leaves the buffer as it was.
-    fn refused(refusal: u8, buffer: &mut [u8]) -> FindAnswer
-        ensures { Refused refusal buffer.old result.refusal result.size result.rounds buffer.new }
-    {
-        Self {
-            refusal,
-            size: 0,
-            rounds: 0,
-        }
-    }
+// The finder: the least summary stands in the first `size` bytes of the buffer.
+pub fn find(book: &[u8], buffer: &mut [u8]) -> Result<Found, Refusal>
+    ensures { FindsIn book.now buffer.old (refusal result)
+        (field (λ f. f.size) result) (field (λ f. f.rounds) result) buffer.new }
+{
+    find_readable(Book::read(book)?, buffer)
 }
 
-// The finder: the least summary stands in the first `size` bytes of the buffer.
-pub fn find(book: &[u8], buffer: &mut [u8]) -> FindAnswer
-    ensures { FindsIn book.now buffer.old result.refusal result.size result.rounds buffer.new }
+// The same for a book that is known to be readable. A refusal leaves the buffer as it was.
+pub fn find_readable(book: Book, buffer: &mut [u8]) -> Result<Found, Refusal>
+    ensures { FindsIn book.entry.bytes.now buffer.old (refusal result)
+        (field (λ f. f.size) result) (field (λ f. f.rounds) result) buffer.new }
 {
-    let answer = read(book);
-    let size = answer.size;
+    let size = book.size;
     let room = buffer.len();
-    if answer.refusal != 0 {
-        return FindAnswer::refused(answer.refusal, buffer);
-    }
     if room < size {
-        return FindAnswer::refused(8, buffer);
+        return Err(Refusal::Size);
     }
-    let rounds = settle(book, &mut buffer[..size]);
-    FindAnswer {
-        refusal: 0,
-        size,
-        rounds,
-    }
+    let rounds = settle(book.bytes, &mut buffer[..size]);
+    Ok(Found { size, rounds })
 }

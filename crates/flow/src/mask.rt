@@ -1,10 +1,7 @@
-// Sets of procedures: bit p for procedure p.
+// Sets of procedures: bit p for procedure p. A type for these and for `Set` needs bounds and laws of its own (kept: no plainer).
 ghost use Rattle.std.specs.Prelude.{◌≡◌, ◌<◌};
 ghost use Rattle.meaning.specs.Limits.{most_procedures};
 ghost use Rattle.meaning.specs.Sets.{single, union, inside};
-
-// The most procedures.
-pub const PROCEDURES: usize = 32;
 
 // The same set with p in it.
 pub fn with(mask: u32, p: usize) -> u32

@@ -2,6 +2,8 @@
 ghost use Rattle.flow.specs.Exprs.{PastPre, PastPost};
 
 use book::bytes::number;
+use book::codes::{CALL, CONSTANT, OPERATION};
+use book::entry::parameters;
 
 // Where the part after n expressions begins.
 pub fn past(book: &[u8], at: usize, n: usize) -> usize
@@ -12,19 +14,19 @@ pub fn past(book: &[u8], at: usize, n: usize) -> usize
     let mut open = n;
     while 0 < open {
         let code = book[at];
-        if code == 0x12 {
+        if code == OPERATION {
             at += 2;
             open += 1;
             continue;
         }
         open -= 1;
-        if code == 0x10 {
+        if code == CONSTANT {
             at += 5;
             continue;
         }
-        if code == 0x13 {
+        if code == CALL {
             let p = number(book[at + 1]);
-            open += number(book[1 + 6 * p + 4]);
+            open += parameters(book, p);
         }
         at += 2;
     }

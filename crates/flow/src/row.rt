@@ -4,18 +4,18 @@ ghost use Rattle.meaning.specs.Limits.{most_parameters};
 ghost use Rattle.meaning.specs.Lists.{each};
 ghost use Rattle.meaning.specs.Sets.{single, union};
 ghost use Rattle.meaning.specs.Flow.{joined};
-ghost use Rattle.flow.specs.Rows.{most_variables, Wide, Held};
-ghost use Rattle.flow.specs.Copies.{most_places};
+ghost use Rattle.flow.specs.Rows.{most_variables, Held};
 ghost use Rattle.flow.specs.Walks.{Raised, RowFits, ArrivePre, Arrived};
 
-use crate::copy::PLACES;
+use crate::copy::Places;
+use book::limits::MOST_VARIABLES;
 use sets::{Bits, Set};
 
-// The most parameters and the most locals together.
-pub const WIDTH: usize = 16;
+// A set for each variable that a procedure may have.
+pub type Row = [Bits; MOST_VARIABLES];
 
 // The set of variable x is replaced.
-pub fn replace(sets: &mut [Bits; WIDTH], x: usize, s: Bits)
+pub fn replace(sets: &mut Row, x: usize, s: Bits)
     requires { x < most_variables }
     ensures { sets.new ≡ set sets.old x s }
 {
@@ -23,18 +23,16 @@ pub fn replace(sets: &mut [Bits; WIDTH], x: usize, s: Bits)
 }
 
 // Every variable's set must lie in the row at place k.
-pub fn raise(summary: &mut [Bits; PLACES], k: usize, w: usize, sets: &[Bits; WIDTH])
-    requires { RowFits k w (length summary.old) × (length summary.old ≡ most_places) }
+pub fn raise(summary: &mut Places, k: usize, w: usize, sets: &Row)
+    requires { RowFits k w (length summary.old) }
     ensures { Raised summary.old k w sets.now summary.new }
 {
-    for i in 0..w {
-        summary[k + i] = summary[k + i] | sets[i];
-    }
+    unite(&mut summary[k..k + w], &sets[..w]);
 }
 
-// The row at place k of a summary.
-pub fn hold(summary: &[Bits; PLACES], k: usize, w: usize, sets: &mut [Bits; WIDTH])
-    requires { RowFits k w (length summary.now) × (length summary.now ≡ most_places) × Wide sets.old }
+// The row at place k of a summary. A loop, since a copy of so few bytes by the library's call costs the finder a tenth (kept: speed).
+pub fn hold(summary: &Places, k: usize, w: usize, sets: &mut Row)
+    requires { RowFits k w (length summary.now) }
     ensures { Held summary.now k w sets.new }
 {
     for i in 0..w {
@@ -43,13 +41,7 @@ pub fn hold(summary: &[Bits; PLACES], k: usize, w: usize, sets: &mut [Bits; WIDT
 }
 
 // The sets arrive at a loop's row, and the walk goes on from the row as the old summary has it.
-pub fn arrive(
-    old: &[Bits; PLACES],
-    new: &mut [Bits; PLACES],
-    k: usize,
-    w: usize,
-    sets: &mut [Bits; WIDTH],
-)
+pub fn arrive(old: &Places, new: &mut Places, k: usize, w: usize, sets: &mut Row)
     requires { ArrivePre old.now new.old k w sets.old }
     ensures { Arrived old.now new.old k w sets.old new.new sets.new }
 {
@@ -58,21 +50,28 @@ pub fn arrive(
 }
 
 // Each variable has the union of its two sets.
-pub fn join(sets: &mut [Bits; WIDTH], other: &[Bits; WIDTH])
-    requires { Wide sets.old × Wide other.now }
+pub fn join(sets: &mut Row, other: &Row)
     ensures { sets.new ≡ joined union sets.old other.now }
 {
-    for i in 0..WIDTH {
-        sets[i] = sets[i] | other[i];
+    unite(sets, other);
+}
+
+// The union of two lists, place by place. An index for the other: of a zip with iter_mut a proof learns no element (kept: proof).
+fn unite(sets: &mut [Bits], other: &[Bits])
+    requires { length sets.old ≡ length other.now }
+    ensures { sets.new ≡ joined union sets.old other.now }
+{
+    for (i, s) in sets.iter_mut().enumerate() {
+        *s |= other[i];
     }
 }
 
 // At the start parameter i has {i}, and locals are empty.
-pub fn start(parameters: usize) -> [Bits; WIDTH]
+pub fn start(parameters: usize) -> Row
     requires { parameters ≤ most_parameters }
     ensures { result ≡ each parameters single ++ replicate (most_variables - parameters) 0 }
 {
-    let mut bits = [0; WIDTH];
+    let mut bits = [0; MOST_VARIABLES];
     for i in 0..parameters {
         bits[i] = Set::one(i).bits;
     }

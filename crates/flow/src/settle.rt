@@ -2,12 +2,11 @@
 ghost use Rattle.flow.specs.Settling.{SettlePre, SettlePost, SatisfiedPost, LaterPre, LaterPost};
 
 use crate::called::scan;
-use crate::copy::{PLACES, copied, same, store};
+use crate::copy::{Places, copied, same, store};
 use crate::legal::legal;
-use crate::mask::PROCEDURES;
 use crate::round::{STARTS, round};
 use crate::wake::{pass, wake};
-use sets::Bits;
+use book::limits::{MOST_PARAMETERS, MOST_PLACES, MOST_PROCEDURES};
 
 // The summary satisfies the rules: a round from it adds nothing, and no set names a parameter its procedure lacks.
 pub fn satisfied(book: &[u8], summary: &[u8]) -> bool
@@ -17,10 +16,7 @@ pub fn satisfied(book: &[u8], summary: &[u8]) -> bool
     let old = copied(summary);
     let mut new = old;
     let starts = round(book, &old, &mut new);
-    if !legal(book, &old, &starts) {
-        return false;
-    }
-    same(&old, &new, summary.len())
+    legal(book, &old, &starts) && same(&old, &new, summary.len())
 }
 
 // From all sets empty, round after round, up to the first that adds nothing; answers how many rounds that took.
@@ -29,8 +25,8 @@ pub fn settle(book: &[u8], summary: &mut [u8]) -> usize
     ensures { SettlePost book.now summary.new result }
 {
     let size = summary.len();
-    let old = [0; PLACES];
-    let mut new = [0; PLACES];
+    let old = [0; MOST_PLACES];
+    let mut new = [0; MOST_PLACES];
     let starts = round(book, &old, &mut new);
     let n = if same(&old, &new, size) {
         1
@@ -42,23 +38,21 @@ pub fn settle(book: &[u8], summary: &mut [u8]) -> usize
 }
 
 // The rounds after the first: each walks only the bodies that read something which the round before has changed.
-fn later(book: &[u8], new: &mut [Bits; PLACES], starts: &[usize; STARTS], size: usize) -> usize
+fn later(book: &[u8], new: &mut Places, starts: &[usize; STARTS], size: usize) -> usize
     requires { LaterPre book.now new.old starts.now size }
     ensures { LaterPost book.now new.new result }
 {
-    let most = 8 * size + 1;
+    let most = MOST_PARAMETERS * size + 1;
     let called = scan(book);
-    let mut old = [0; PLACES];
-    let mut walks = [1u8; PROCEDURES];
-    let mut n = 1;
-    while n < most {
+    let mut old = [0; MOST_PLACES];
+    let mut walks = [true; MOST_PROCEDURES];
+    for n in 1..most {
         walks = wake(book, &old, new, &called, starts, &walks);
         old = *new;
         pass(book, &old, new, &walks, starts);
-        n += 1;
         if same(&old, new, size) {
-            return n;
+            return n + 1;
         }
     }
-    n
+    most
 }

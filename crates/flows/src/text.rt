@@ -1,70 +1,34 @@
 // A line of text: a name, then the bytes of a book, each a space and two hexadecimal digits, then a line end.
-ghost use Rattle.std.specs.Prelude.{◌+◌, ◌<◌, ◌≤◌, length};
+ghost use Rattle.std.specs.Prelude.{◌≡◌, ◌≤◌, ◌+◌, length};
 
-// How many bytes were read, and where the next line begins.
-#[derive(Clone, Copy)]
-pub struct Parsed {
-    pub count: usize,
-    pub next: usize,
+use input::hex::{Letters, split_byte};
+
+// The name, which ends at a space or a line end, and the text behind it.
+pub fn split_name(text: &[u8]) -> (&[u8], &[u8])
+    ensures { length result.0.now + length result.1.now ≡ length text.now }
+{
+    let end = text.iter().position(|&c| c <= b' ').unwrap_or(text.len());
+    text.split_at(end)
 }
 
-// Where the name that begins at this place ends: at a space or a line end.
-pub fn name_end(text: &[u8], at: usize) -> usize
-    requires { at ≤ length text.now }
-    ensures { (at ≤ result) × (result ≤ length text.now) }
+// As many bytes as the text begins with and the room holds, and the text behind them.
+// The bytes of levelling's parts stand together, and end otherwise (kept: one loop for both would take each step as a closure).
+pub fn split_book<'t, 'b>(text: &'t [u8], room: &'b mut [u8]) -> (&'b [u8], &'t [u8])
+    ensures part { length result.0.now ≤ length room.old }
+    ensures rest { length result.1.now ≤ length text.now }
 {
-    let mut i = at;
-    while i < text.len() {
-        if text[i] <= b' ' {
-            return i;
-        }
-        i += 1;
-    }
-    i
-}
-
-pub fn parse(text: &[u8], at: usize, book: &mut [u8]) -> Parsed
-    requires { at ≤ length text.now }
-    ensures { (result.count ≤ length book.new) × (at < result.next) }
-{
-    let mut i = at;
-    let mut n = 0;
-    while n < book.len() {
-        if text.len() - i < 3 {
+    let mut rest = text;
+    let mut count = 0;
+    for place in room.iter_mut() {
+        let Some((byte, behind)) = rest
+            .strip_prefix(b" ")
+            .and_then(|digits| split_byte(digits, Letters::Small))
+        else {
             break;
-        }
-        if text[i] != b' ' {
-            break;
-        }
-        book[n] = pair(text[i + 1], text[i + 2]);
-        n += 1;
-        i += 3;
+        };
+        *place = byte;
+        rest = behind;
+        count += 1;
     }
-    Parsed {
-        count: n,
-        next: i + 1,
-    }
-}
-
-// The byte of two hexadecimal digits.
-fn pair(high: u8, low: u8) -> u8 {
-    16 * digit(high) + digit(low)
-}
-
-fn digit(c: u8) -> u8
-    ensures { result < 16 }
-{
-    if c < b'0' {
-        return 0;
-    }
-    if c <= b'9' {
-        return c - b'0';
-    }
-    if c < b'a' {
-        return 0;
-    }
-    if c <= b'f' {
-        return c - b'a' + 10;
-    }
-    0
+    (&room[..count], rest)
 }

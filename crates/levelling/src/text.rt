@@ -1,76 +1,35 @@
 // The parts of a line.
-ghost use Rattle.std.specs.Prelude.{◌<◌, ◌≤◌, length};
+ghost use Rattle.std.specs.Prelude.{◌≡◌, ◌≤◌, ◌<◌, ◌+◌, length};
 
-// How many bytes were read, and where the next part begins.
-#[derive(Clone, Copy)]
-pub struct Found {
-    pub count: usize,
-    pub next: usize,
+use input::behind;
+use input::hex::{Letters, split_byte};
+
+// The name with the colon that ends it, and the text behind it.
+pub fn split_name(text: &[u8]) -> (&[u8], &[u8])
+    ensures parts { length result.0.now + length result.1.now ≡ length text.now }
+    ensures some { 0 < length text.now → 0 < length result.0.now }
+{
+    let colon = text.iter().position(|&c| c == b':');
+    text.split_at(colon.map_or(text.len(), |i| i + 1))
 }
 
-// The place behind the colon that ends the name.
-pub fn name_end(text: &[u8], at: usize) -> usize
-    requires { at < length text.now }
-    ensures { (at < result) × (result ≤ length text.now) }
+// One byte that is passed over, then bytes up to the next space or line end, as far as the room goes; and the text behind them.
+pub fn split_part<'t, 'b>(text: &'t [u8], room: &'b mut [u8]) -> (&'b [u8], &'t [u8])
+    ensures part { length result.0.now ≤ length room.old }
+    ensures rest { length result.1.now ≤ length text.now }
 {
-    let mut i = at;
-    while i < text.len() {
-        if text[i] == b':' {
-            return i + 1;
-        }
-        i += 1;
-    }
-    i
-}
-
-// The place behind the byte at this place.
-pub fn after(text: &[u8], at: usize) -> usize
-    requires { at ≤ length text.now }
-    ensures { (at ≤ result) × (result ≤ length text.now) }
-{
-    if at < text.len() { at + 1 } else { at }
-}
-
-// One byte that is passed over, then bytes up to the next space or line end.
-pub fn part(text: &[u8], at: usize, bytes: &mut [u8]) -> Found
-    requires { at ≤ length text.now }
-    ensures { (result.count ≤ length bytes.new) × (at ≤ result.next) × (result.next ≤ length text.now) }
-{
-    let mut i = after(text, at);
-    let mut n = 0;
-    while n < bytes.len() {
-        if text.len() - i < 2 {
+    let mut rest = behind(text);
+    let mut count = 0;
+    for place in room.iter_mut() {
+        if rest.first().is_none_or(|&c| c <= b' ') {
             break;
         }
-        if text[i] <= b' ' {
+        let Some((byte, after)) = split_byte(rest, Letters::Large) else {
             break;
-        }
-        bytes[n] = pair(text[i], text[i + 1]);
-        n += 1;
-        i += 2;
+        };
+        *place = byte;
+        rest = after;
+        count += 1;
     }
-    Found { count: n, next: i }
-}
-
-// The byte of two hexadecimal digits.
-fn pair(high: u8, low: u8) -> u8 {
-    16 * digit(high) + digit(low)
-}
-
-fn digit(c: u8) -> u8
-    ensures { result < 16 }
-{
-    if c < b'0' {
-        return 0;
-    }
-    if c <= b'9' {
-        return c - b'0';
-    }
-    if c < b'A' {
-        return 0;
-    }
-    if c <= b'F' {
-        return c - b'A' + 10;
-    }
-    0
+    (&room[..count], rest)
 }

@@ -1,4 +1,3 @@
 pub mod Laws
 pub mod Tests
 pub mod Upto
-pub mod Found

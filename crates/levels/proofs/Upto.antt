@@ -7,15 +7,11 @@ use native.Mathlib.Omega.{arith}
 use native.Mathlib.Numerals.{add-one}
 use borrow.Author.Tests.{not-false}
 use Rattle.meaning.specs.Lists.{every}
-use Rattle.meaning.specs.Levels.{levels, closed, idempotent, commutative, associative, is_bottom, at_or_below}
+use Rattle.meaning.specs.Levels.{levels, closed, idempotent, commutative, associative}
 use Rattle.meaning.proofs.Lists.{both, both_left, both_right, every_sound, every_complete}
 use Rattle.meaning.proofs.Levels.{pairs_sound, pairs_complete}
 use Rattle.levels.specs.Lawful.{stays, repeats, commutes, associates, lawful}
 use Rattle.levels.proofs.Laws.{against}
-
--- The first b levels are at or above a.
-unfoldable pub below_upto : List ℕ → ℕ → ℕ → Bool
-below_upto t a b = every b λ b. at_or_below t a b
 
 -- The first c levels associate with a and b.
 unfoldable pub triples_upto : List ℕ → ℕ → ℕ → ℕ → Bool
@@ -39,25 +35,6 @@ unfolding every
 every_more n f h k = rw add-one (both h k)
 
 module _ (t : List ℕ) where
-  pub below_none : (a : ℕ) → below_upto t a 0 ≡ true
-  unfolding below_upto every
-  below_none a = refl
-
-  pub below_more : (a b : ℕ) {r : Bool} → below_upto t a b ≡ true → r ≡ at_or_below t a b → not r ≡ false → below_upto t a (b + 1) ≡ true
-  unfolding below_upto
-  below_more a b {r} h e k = every_more b (λ b. at_or_below t a b) h (sym e ∙ not-false r k)
-
-  pub all_below : (a b n : ℕ) → n ≡ levels t → b ≤ n → n ≤ b → below_upto t a b ≡ true → true ≡ is_bottom t a
-  unfolding below_upto is_bottom at_or_below
-  all_below a b n e h k u =
-      let q : levels t ≡ b = omega arith in
-      rw q (sym u)
-
-  pub one_not_below : (a b n : ℕ) {r : Bool} → n ≡ levels t → b < n → r ≡ at_or_below t a b → not r ≡ true → false ≡ is_bottom t a
-  unfolding is_bottom at_or_below
-  one_not_below a b n {r} e h q k =
-      against (is_bottom t a) k λ v. q ∙ every_sound (levels t) (λ b. at_or_below t a b) v b (omega arith)
-
   pub triples_none : (a b : ℕ) → triples_upto t a b 0 ≡ true
   unfolding triples_upto every
   triples_none a b = refl
@@ -102,7 +79,7 @@ module _ (t : List ℕ) where
     pair_holds a b ha = every_sound (levels t) (pair_kept t a) (both_right (repeats t a) _ (level_holds a ha)) b
 
     all_hold : lawful t ≡ true
-    unfolding lawful closed idempotent commutative associative repeats pair_kept triples_upto stays commutes associates
+    unfolding lawful closed idempotent commutative associative pair_kept triples_upto
     all_hold =
         both (pairs_complete (levels t) (stays t) λ a b ha hb. both_left (stays t a b) _ (pair_holds a b ha hb))
         (both (every_complete (levels t) (λ a. repeats t a) λ a ha. both_left (repeats t a) _ (level_holds a ha))
@@ -112,30 +89,30 @@ module _ (t : List ℕ) where
         (pairs_complete (levels t) (λ a b. every (levels t) (associates t a b))
         λ a b ha hb. both_right (commutes t a b) _ (both_right (stays t a b) _ (pair_holds a b ha hb)))))
 
-  pub laws_all : (a n : ℕ) {kept : Bool} → kept ≡ true → n ≡ levels t → a ≤ n → n ≤ a → laws_upto t a ≡ true → kept ≡ lawful t
-  laws_all a n k e l g u =
+  pub laws_all : (a n : ℕ) → n ≡ levels t → a ≤ n → n ≤ a → laws_upto t a ≡ true → true ≡ lawful t
+  laws_all a n e l g u =
       let q : a ≡ levels t = omega arith in
-      k ∙ sym (all_hold (rw q at u))
+      sym (all_hold (rw q at u))
 
   pub one_not_repeats : (a n : ℕ) {r : Bool} → n ≡ levels t → a < n → r ≡ repeats t a → not r ≡ true → false ≡ lawful t
-  unfolding lawful idempotent repeats
+  unfolding lawful idempotent
   one_not_repeats a n {r} e h q k =
       against (lawful t) k λ v. q ∙ every_sound (levels t) (λ a. repeats t a) (both_left (idempotent t) _ (both_right (closed t) _ v)) a (omega arith)
 
   pub one_not_stays : (a b n : ℕ) {r : Bool} → n ≡ levels t → a < n → b < n → r ≡ stays t a b → not r ≡ true → false ≡ lawful t
-  unfolding lawful closed stays
+  unfolding lawful closed
   one_not_stays a b n {r} e h g q k =
       against (lawful t) k λ v. q ∙ pairs_sound (levels t) (stays t) (both_left (closed t) _ v) a b (omega arith) (omega arith)
 
   pub one_not_commutes : (a b n : ℕ) {r : Bool} → n ≡ levels t → a < n → b < n → r ≡ commutes t a b → not r ≡ true → false ≡ lawful t
-  unfolding lawful commutative commutes
+  unfolding lawful commutative
   one_not_commutes a b n {r} e h g q k =
       against (lawful t) k λ v. q ∙ pairs_sound (levels t) (commutes t)
       (both_left (commutative t) _ (both_right (idempotent t) _ (both_right (closed t) _ v))) a b (omega arith) (omega arith)
 
   pub one_not_associates : (a b c n : ℕ) {r : Bool} → n ≡ levels t → a < n → b < n → c < n → r ≡ associates t a b c → not r ≡ true →
       false ≡ lawful t
-  unfolding lawful associative associates
+  unfolding lawful associative
   one_not_associates a b c n {r} e h g l q k =
       against (lawful t) k λ v. q ∙ every_sound (levels t) (associates t a b)
       (pairs_sound (levels t) (λ a b. every (levels t) (associates t a b))

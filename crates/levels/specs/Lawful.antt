@@ -3,19 +3,19 @@ use Rattle.std.specs.Prelude.{Bool, ◌&&◌, List, ℕ, eqb, ltb}
 use Rattle.meaning.specs.Levels.{levels, join, closed, idempotent, commutative, associative}
 
 -- The entry of a and b is a level.
-unfoldable pub stays : List ℕ → ℕ → ℕ → Bool
+abbrev pub stays : List ℕ → ℕ → ℕ → Bool
 stays t a b = ltb (join t a b) (levels t)
 
 -- Level a joined with itself is a.
-unfoldable pub repeats : List ℕ → ℕ → Bool
+abbrev pub repeats : List ℕ → ℕ → Bool
 repeats t a = eqb (join t a a) a
 
 -- Levels a and b join alike in either order.
-unfoldable pub commutes : List ℕ → ℕ → ℕ → Bool
+abbrev pub commutes : List ℕ → ℕ → ℕ → Bool
 commutes t a b = eqb (join t a b) (join t b a)
 
 -- Levels a, b and c join alike in either grouping.
-unfoldable pub associates : List ℕ → ℕ → ℕ → ℕ → Bool
+abbrev pub associates : List ℕ → ℕ → ℕ → ℕ → Bool
 associates t a b c = eqb (join t (join t a b) c) (join t a (join t b c))
 
 -- All of a valid table but its shape and its bottom.

@@ -8,11 +8,14 @@ ghost use Rattle.levels.specs.Lawful.{stays, repeats, commutes, associates, lawf
 
 use sets::Set;
 
+// The most levels of a table.
+pub const MOST_LEVELS: usize = 16;
+
 // The byte at a place, and 0 past the end.
 fn byte(bytes: &[u8], at: usize) -> u8
     ensures { result ≡ get_or bytes.now at 0 }
 {
-    if at < bytes.len() { bytes[at] } else { 0 }
+    bytes.get(at).copied().unwrap_or(0)
 }
 
 // The number of levels.
@@ -26,22 +29,16 @@ pub fn count(table: &[u8]) -> u8
 pub fn join(table: &[u8], a: u8, b: u8) -> u8
     ensures { result ≡ join table.now a b }
 {
-    let n = count(table) as usize;
-    byte(table, 1 + n * (a as usize) + (b as usize))
+    let n = usize::from(count(table));
+    byte(table, 1 + n * usize::from(a) + usize::from(b))
 }
 
 // One byte n, 1 to 16, then n rows of n bytes.
 fn shaped(table: &[u8]) -> bool
     ensures { result ≡ shaped table.now }
 {
-    let n = count(table) as usize;
-    if n < 1 {
-        return false;
-    }
-    if 16 < n {
-        return false;
-    }
-    table.len() == 1 + n * n
+    let n = usize::from(count(table));
+    (1..=MOST_LEVELS).contains(&n) && table.len() == 1 + n * n
 }
 
 // The entry of two levels is a level.
@@ -73,34 +70,32 @@ fn associates(table: &[u8], a: u8, b: u8, c: u8) -> bool
 }
 
 // The laws of one level, of pairs and of triples. The first that is broken ends the test.
+// The loops are left by a label (kept: docs/DECISIONS.md names this form).
 fn lawful(table: &[u8]) -> bool
     ensures { result ≡ lawful table.now }
 {
     let n = count(table);
-    let mut kept = true;
-    'laws: for a in 0..n {
-        if !repeats(table, a) {
-            kept = false;
-            break 'laws;
-        }
-        for b in 0..n {
-            if !stays(table, a, b) {
-                kept = false;
-                break 'laws;
+    'laws: {
+        for a in 0..n {
+            if !repeats(table, a) {
+                break 'laws false;
             }
-            if !commutes(table, a, b) {
-                kept = false;
-                break 'laws;
-            }
-            for c in 0..n {
-                if !associates(table, a, b, c) {
-                    kept = false;
-                    break 'laws;
+            for b in 0..n {
+                if !stays(table, a, b) {
+                    break 'laws false;
+                }
+                if !commutes(table, a, b) {
+                    break 'laws false;
+                }
+                for c in 0..n {
+                    if !associates(table, a, b, c) {
+                        break 'laws false;
+                    }
                 }
             }
         }
+        true
     }
-    kept
 }
 
 // Level a is at or below b when their join is b.
@@ -114,52 +109,33 @@ pub fn at_or_below(table: &[u8], a: u8, b: u8) -> bool
 fn is_bottom(table: &[u8], a: u8) -> bool
     ensures { result ≡ is_bottom table.now a }
 {
-    let n = count(table);
-    for b in 0..n {
-        if !at_or_below(table, a, b) {
-            return false;
-        }
-    }
-    true
+    (0..count(table)).all(|b| at_or_below(table, a, b))
 }
 
-// The bottom level.
+// The bottom level, and 0 where no level is (kept: the contract of this public function is an equation for any bytes).
 pub fn bottom(table: &[u8]) -> u8
     ensures { result ≡ bottom table.now }
 {
-    let n = count(table);
-    let mut found = 0;
-    for a in 0..n {
-        if is_bottom(table, a) {
-            found = a;
-        }
-    }
-    found
+    (0..count(table)).fold(0, |found, a| if is_bottom(table, a) { a } else { found })
 }
 
 // A level table is valid when it has its shape and keeps every law. Where no level is bottom, neither is what is found.
 pub fn valid(table: &[u8]) -> bool
     ensures { result ≡ valid table.now }
 {
-    if !shaped(table) {
-        return false;
-    }
-    if !lawful(table) {
-        return false;
-    }
-    is_bottom(table, bottom(table))
+    shaped(table) && lawful(table) && is_bottom(table, bottom(table))
 }
 
 // Bottom joined with the levels of those of n parameters that are in the set.
 pub fn reported(table: &[u8], levels: &[u8], n: usize, set: Set) -> u8
     requires { n ≤ most_parameters }
-    ensures { result ≡ reported table.now levels.now n set.bits }
+    ensures { result ≡ reported table.now levels.now n set }
 {
-    let mut found = bottom(table);
-    for i in 0..n {
+    (0..n).fold(bottom(table), |found, i| {
         if set.has(i) {
-            found = join(table, found, byte(levels, i));
+            join(table, found, byte(levels, i))
+        } else {
+            found
         }
-    }
-    found
+    })
 }

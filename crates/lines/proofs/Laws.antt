@@ -1,34 +1,17 @@
 -- How a text grows, and the digits of a byte.
-use mathlib.Core.Path.{◌≡◌, sym, ap, ◌∙◌}
-use mathlib.Core.List.{List, [], ◌∷◌, ◌++◌, append_assoc, append-nil}
+use mathlib.Core.Path.{◌≡◌, refl, sym, ap, ◌∙◌}
+use mathlib.Core.Bool.{Bool, true, false}
+use mathlib.Core.List.{List, [], ◌∷◌, ◌++◌, append_assoc}
 use Prim.Native.Nat.{ℕ, suc, ◌+◌, ◌-◌, ◌/◌, ◌%◌, ◌<◌, ◌≤◌}
-use native.Mathlib.Numerals.{add-one}
 use native.Mathlib.Omega.{arith}
-use lib.ListN.{length, get_or, take, set, replicate, length-append}
-use lib.Seq.{set_at, take_at, take-suc, take-length}
-use borrow.Author.Tests.{lt-ltb, le-ltb}
+use lib.ListN.{length, take, drop, replicate, length-append, length-replicate}
+use borrow.Rule.Slice.PartMut.{put_mid}
+use Rattle.std.proofs.lemmas.List.{drop_at, drop-replicate}
+use Rattle.std.proofs.lemmas.Slice.{take-put_mid}
+use lib.Dec.{leb}
+use borrow.Author.Tests.{lt-ltb, le-ltb, leb-true, leb-false}
 use Rattle.meaning.specs.Answers.{digits, decimal}
-use Rattle.lines.specs.Says.{room, Says, Grown}
-
--- The first of the 0s behind the text is another byte.
-filled : (t : List ℕ) (len n b : ℕ) → length t ≡ len → set (t ++ replicate (suc n) 0) len b ≡ (t ++ (b ∷ [])) ++ replicate n 0
-filled t len n b h = set_at t 0 (replicate n 0) b len h ∙ sym (append_assoc t (b ∷ []) (replicate n 0))
-
-says_put : {t bytes : List ℕ} {len : ℕ} (b : ℕ) → len + 1 ≤ room → Says t bytes len → Says (t ++ (b ∷ [])) (set bytes len b) (len + 1)
-says_put {t} {bytes} {len} b h s =
-    let e : room - len ≡ suc (room - (len + 1)) = omega arith in
-    record {
-      fits = h;
-      len_is = simp length-append (omega (arith, s.len_is));
-      bytes_is = ap (λ l. set l len b) (s.bytes_is ∙ ap (λ k. t ++ replicate k 0) e) ∙ filled t len (room - (len + 1)) b (sym s.len_is);
-    }
-
-pub grown_put : (bytes : List ℕ) (len b : ℕ) → len + 1 ≤ room → Grown bytes len (b ∷ []) 1 (set bytes len b) (len + 1)
-grown_put bytes len b h = record { within = omega arith; says = λ t s. says_put b h s }
-
-pub grown_then : {old mid new xs ys : List ℕ} {l m n k j : ℕ} → Grown old l xs k mid m → Grown mid m ys j new n → Grown old l (xs ++ ys) (k + j) new n
-grown_then {xs = xs} {ys = ys} g h =
-    record { within = omega (arith, g.within, h.within); says = λ t s. rw (← append_assoc t xs ys) (h.says (t ++ xs) (g.says t s)) }
+use Rattle.lines.specs.Says.{room, Says}
 
 -- The last digit, and the digits before it.
 last_digit : (k n : ℕ) (text : List ℕ) → n < 10 → digits (suc k) n text ≡ (48 + n) ∷ text
@@ -63,45 +46,59 @@ three_digits n h k =
     ∙ last_digit (n - 2) (n / 10 / 10) ((48 + n / 10 % 10) ∷ last) (omega arith)
     ∙ ap (λ d. (48 + d) ∷ (48 + n / 10 % 10) ∷ last) g
 
--- The same text, counted with more bytes, or by another name.
-renamed : {old new xs ys : List ℕ} {l m k j : ℕ} → xs ≡ ys → k ≤ j → Grown old l xs k new m → Grown old l ys j new m
-renamed {xs = xs} {ys = ys} e h g = record { within = omega (arith, g.within); says = λ t s. rw (sym e) (g.says t s) }
-
--- A number of one, two and three digits.
-pub grown_one : {old new : List ℕ} {l m n : ℕ} → n < 10 → Grown old l ((48 + n) ∷ []) 1 new m → Grown old l (decimal n) 3 new m
-grown_one {n = n} h g = renamed (sym (one_digit n h)) (omega arith) g
-
-pub grown_two : {old mid new : List ℕ} {l m k n : ℕ} → 10 ≤ n → n < 100 →
-    Grown old l ((48 + n / 10) ∷ []) 1 mid m → Grown mid m ((48 + n % 10) ∷ []) 1 new k → Grown old l (decimal n) 3 new k
-grown_two {n = n} h k f g = renamed (sym (two_digits n h k)) (omega arith) (grown_then f g)
-
-pub grown_three : {old mid mid2 new : List ℕ} {l m m2 k n : ℕ} → 100 ≤ n → n < 1000 →
-    Grown old l ((48 + n / 100) ∷ []) 1 mid m → Grown mid m ((48 + n / 10 % 10) ∷ []) 1 mid2 m2 →
-    Grown mid2 m2 ((48 + n % 10) ∷ []) 1 new k → Grown old l (decimal n) 3 new k
-grown_three {n = n} h k e f g = renamed (sym (three_digits n h k)) (omega arith) (grown_then e (grown_then f g))
-
--- Growing by a list byte by byte.
-pub grown_none : (bytes : List ℕ) (len : ℕ) → Grown bytes len [] 0 bytes len
-grown_none bytes len = record { within = omega arith; says = λ t s. rw append-nil s }
-
-pub grown_more : {old mid new : List ℕ} {l m n : ℕ} (more : List ℕ) (i : ℕ) → i < length more →
-    Grown old l (take i more) i mid m → Grown mid m (get_or more i 0 ∷ []) 1 new n → Grown old l (take (i + 1) more) (i + 1) new n
-grown_more more i h f g = rw (add-one, take-suc more i 0) (rw add-one at (grown_then f g))
-
-pub grown_whole : {old new : List ℕ} {l m i : ℕ} (more : List ℕ) → i ≡ length more →
-    Grown old l (take i more) i new m → Grown old l more (length more) new m
-grown_whole more e g = renamed (ap (λ k. take k more) e ∙ take-length more) (omega arith) g
-
--- The text lies within its array.
-pub says_within : {t bytes : List ℕ} {len : ℕ} → Says t bytes len → len ≤ length bytes
-says_within s = rw s.bytes_is (simp length-append (omega (arith, s.len_is)))
-
 -- No two arrays and lengths say the same text.
 pub one_text : {t bytes bytes' : List ℕ} {len len' : ℕ} → Says t bytes len → Says t bytes' len' → (bytes ≡ bytes') × (len ≡ len')
 one_text s r =
     let same = s.len_is ∙ sym r.len_is in
     (s.bytes_is ∙ (rw same (sym r.bytes_is)), same)
 
--- What is printed: the bytes of the array up to the length.
-pub says_text : {t bytes : List ℕ} {len : ℕ} → Says t bytes len → take len bytes ≡ t
-says_text {t} {len = len} s = rw s.bytes_is (take_at t (replicate (room - len) 0) len (sym s.len_is))
+-- What a clause sees of a text is said by its array and its length.
+pub held_says : {t bytes : List ℕ} {len : ℕ} → Says (take len bytes) bytes len → take len bytes ≡ t → Says t bytes len
+held_says s e = rw e at s
+
+-- A number below 1,000 has three digits at most.
+pub few_digits : (n : ℕ) → n < 1000 → length (decimal n) ≤ 3
+few_digits n h = by (leb 10 n) refl (leb 100 n) refl
+  where
+    by : (a : Bool) → leb 10 n ≡ a → (b : Bool) → leb 100 n ≡ b → length (decimal n) ≤ 3
+    by false p b q = rw (one_digit n (leb-false 10 n p)) (omega arith)
+    by true p false q = rw (two_digits n (leb-true 10 n p) (leb-false 100 n q)) (omega arith)
+    by true p true q = rw (three_digits n (leb-true 100 n q) h) (omega arith)
+
+-- More is put behind a text in its array.
+module _ {bytes more new : List ℕ} {len k : ℕ} (s : Says (take len bytes) bytes len) (h : len + length more ≤ room) (n : k ≡ length more)
+    (e : new ≡ more) where
+  room_is : length bytes ≡ room
+  room_is = ap length s.bytes_is ∙ simp (length-append, length-replicate) (omega (arith, s.fits, s.len_is))
+
+  behind : drop k (drop len bytes) ≡ replicate (room - (len + length more)) 0
+  behind =
+      ap (λ z. drop k z) (ap (drop len) s.bytes_is ∙ drop_at (take len bytes) (replicate (room - len) 0) len (sym s.len_is))
+      ∙ drop-replicate k (room - len) 0 ∙ ap (λ m. replicate m 0) (omega arith)
+
+  pub put_text : take (len + length more) (put_mid len k bytes new) ≡ take len bytes ++ more
+  put_text = rw e (take-put_mid len k bytes more (len + length more) refl (omega (arith, room_is)))
+
+  pub put_says : Says (take (len + length more) (put_mid len k bytes new)) (put_mid len k bytes new) (len + length more)
+  put_says =
+      record {
+        fits = h;
+        len_is = rw put_text (simp length-append (omega (arith, s.len_is)));
+        bytes_is =
+            ap (λ m. take len bytes ++ (m ++ drop k (drop len bytes))) e
+            ∙ ap (λ z. take len bytes ++ (more ++ z)) behind
+            ∙ sym (append_assoc (take len bytes) more (replicate (room - (len + length more)) 0))
+            ∙ ap (λ t. t ++ replicate (room - (len + length more)) 0) (sym put_text);
+      }
+
+-- A number of one, two and three digits.
+module _ (old : List ℕ) (n : ℕ) {new : List ℕ} where
+  pub put_one : n < 10 → {a : ℕ} → a ≡ 48 + n → new ≡ old ++ (a ∷ []) → new ≡ old ++ decimal n
+  put_one h p e = rw (one_digit n h, ← p) e
+
+  pub put_two : 10 ≤ n → n < 100 → {a b : ℕ} → a ≡ 48 + n / 10 → b ≡ 48 + n % 10 → new ≡ old ++ (a ∷ b ∷ []) → new ≡ old ++ decimal n
+  put_two h k p q e = rw (two_digits n h k, ← p, ← q) e
+
+  pub put_three : 100 ≤ n → n < 1000 → {a b c : ℕ} → a ≡ 48 + n / 100 → b ≡ 48 + n / 10 % 10 → c ≡ 48 + n % 10 →
+      new ≡ old ++ (a ∷ b ∷ c ∷ []) → new ≡ old ++ decimal n
+  put_three h k p q r e = rw (three_digits n h k, ← p, ← q, ← r) e

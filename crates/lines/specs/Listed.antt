@@ -1,25 +1,14 @@
 -- The lines of a readable book, where its summary is at hand.
-use Rattle.std.specs.Prelude.{List, ℕ, ◌+◌, ◌≤◌, ◌<◌, length}
-use Rattle.meaning.specs.Reading.{entry, procedures}
-use Rattle.meaning.specs.Flow.{at}
-use Rattle.meaning.specs.Answers.{lines}
-use Rattle.book.proofs.Readable.{BookHere}
-use Rattle.lines.specs.Says.{room, Says, Grown, line_of, line_bytes}
+use Rattle.std.specs.Prelude.{◌≡◌, List, [], ◌∷◌, ◌++◌, ℕ, Result, Ok, Err}
+use Rattle.meaning.specs.Answers.{lines, listing, decimal, refused_text}
+use Rattle.refusals.specs.declared.Refusal.{Refusal}
+use Rattle.refusals.specs.Numbers.{number}
+use Rattle.book.specs.Here.{BookHere}
 
--- The book is readable, and the summary has a result for each procedure.
-pub record Listable (book summary : List ℕ) : Type 0 where
-  pub here : BookHere book
-  pub results : procedures book ≤ length summary
+pub record Listed (book summary text : List ℕ) : Type 0 where
+  pub lists : (g : BookHere book) → text ≡ lines 0 g.book summary
 
-pub record Listed (book summary bytes : List ℕ) (len : ℕ) : Type 0 where
-  pub says : (g : BookHere book) → Says (lines 0 g.book summary) bytes len
-
--- The text has room for the line of procedure p.
-pub record EntryPre (book summary : List ℕ) (p len : ℕ) : Type 0 where
-  pub listable : Listable book summary
-  pub known : p < procedures book
-  pub space : len + line_bytes ≤ room
-
-abbrev pub EntryPost : List ℕ → List ℕ → ℕ → List ℕ → ℕ → List ℕ → ℕ → Type 0
-EntryPost book summary p old len new len' =
-    Grown old len (line_of p (entry book p).parameters (entry book p).locals (at summary p)) line_bytes new len'
+-- The book's lines, or the refusal that its listing tells.
+abbrev pub ListsOrRefuses : List ℕ → Result (List ℕ) Refusal → Type 0
+ListsOrRefuses book (Ok text) = text ≡ listing book
+ListsOrRefuses book (Err refusal) = listing book ≡ refused_text ++ (decimal (number refusal) ++ (10 ∷ []))

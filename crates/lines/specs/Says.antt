@@ -1,5 +1,5 @@
 -- A text in an array: the array begins with it, and is 0 behind it.
-use Rattle.std.specs.Prelude.{◌≡◌, List, [], ◌∷◌, ◌++◌, ℕ, ◌+◌, ◌-◌, ◌≤◌, length, replicate}
+use Rattle.std.specs.Prelude.{◌≡◌, List, [], ◌∷◌, ◌++◌, ℕ, ◌-◌, ◌≤◌, length, replicate}
 use Rattle.meaning.specs.Answers.{decimal}
 
 -- The bytes that a text has room for.
@@ -10,11 +10,6 @@ pub record Says (text bytes : List ℕ) (len : ℕ) : Type 0 where
   pub fits : len ≤ room
   pub len_is : len ≡ length text
   pub bytes_is : bytes ≡ text ++ replicate (room - len) 0
-
--- Whatever the text was, it has grown by these bytes, of which there are few.
-pub record Grown (old : List ℕ) (len : ℕ) (more : List ℕ) (few : ℕ) (new : List ℕ) (len' : ℕ) : Type 0 where
-  pub within : len' ≤ len + few
-  pub says : (t : List ℕ) → Says t old len → Says (t ++ more) new len'
 
 -- The line of one procedure: number, parameters, locals, result set, one space between.
 abbrev pub line_of : ℕ → ℕ → ℕ → ℕ → List ℕ

@@ -4,25 +4,31 @@
 mod entries;
 mod text;
 
+ghost use Rattle.std.specs.Prelude.{◌≡◌};
 ghost use Rattle.meaning.specs.Answers.{listing};
-ghost use Rattle.lines.specs.Says.{Says};
+ghost use Rattle.refusals.specs.Numbers.{refusal};
+ghost use Rattle.lines.specs.Listed.{ListsOrRefuses};
 
-use crate::entries::{lines_of, refusal};
+use crate::entries::{lines_of, refused};
 pub use crate::text::Text;
-use flow::find;
+use book::Book;
+use book::limits::MOST_PLACES;
+use flow::find_readable;
+use refusals::Refusal;
 
-// The largest summary: a result for each of 32 procedures, and 16 sets for each of 64 loops.
-const PLACES: usize = 1056;
+// The lines of the book's procedures, by the least summary.
+fn accepted(book: &[u8]) -> Result<Text, Refusal>
+    ensures { ListsOrRefuses book.now result }
+{
+    let book = Book::read(book)?;
+    let mut summary = [0; MOST_PLACES];
+    let found = find_readable(book, &mut summary)?;
+    Ok(lines_of(book, &summary[..found.size]))
+}
 
 // The listing of a book, or of its refusal.
 pub fn list(book: &[u8]) -> Text
-    ensures { Says (listing book.now) result.bytes result.len }
+    ensures { result ≡ listing book.now }
 {
-    let mut summary = [0u8; PLACES];
-    let found = find(book, &mut summary);
-    let size = found.size;
-    if found.refusal != 0 {
-        return refusal(found.refusal);
-    }
-    lines_of(book, &summary[..size])
+    accepted(book).unwrap_or_else(refused)
 }

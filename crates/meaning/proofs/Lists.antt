@@ -2,12 +2,13 @@
 use mathlib.Core.Path.{◌≡◌, refl, ◌∙◌}
 use mathlib.Core.Logic.{◌⊎◌, inl, inr, ⊎_elim}
 use mathlib.Core.Bool.{Bool, true, false, ◌&&◌, or-true}
-use mathlib.Core.List.{[], ◌∷◌}
-use Prim.Native.Nat.{ℕ, zero, suc, ◌<◌}
+use mathlib.Core.List.{List, [], ◌∷◌}
+use mathlib.Core.Option.{none}
+use Prim.Native.Nat.{ℕ, zero, suc, ◌<◌, ◌≤◌}
 use native.Mathlib.Omega.{arith}
 use native.Mathlib.Numerals.{add-one}
 use native.Mathlib.Decide.{ℕ_discrete}
-use lib.ListN.{length, get_or, length-append, get_or-append}
+use lib.ListN.{length, get_or, get_elem?, length-append, get_or-append}
 use lib.Seq.{get_or_at}
 use Rattle.meaning.specs.Lists.{each, fold, every, some_below}
 use Rattle.meaning.specs.Worked.{EveryRow}
@@ -89,3 +90,9 @@ unfolding some_below
 some_complete zero f i h e = absurd (omega arith)
 some_complete (suc n) f i h e =
     ⊎_elim (λ l. rw (some_complete n f i l e)) (λ q. rw (rw q at e) (or-true (some_below n f))) (below_suc h)
+
+-- A number at or above the length names no element.
+pub none_beyond : {A : Type 0} (l : List A) (i : ℕ) → length l ≤ i → get_elem? l i ≡ none
+none_beyond [] i h = refl
+none_beyond (a ∷ l) zero h = absurd (omega arith)
+none_beyond (a ∷ l) (suc i) h = none_beyond l i (omega arith)

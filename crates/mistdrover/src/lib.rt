@@ -1,23 +1,29 @@
 // The public face: the five entries with the signatures of C functions, which `mistdrover_c` exports.
 // Each returns the refusal number, 0 for none, and always fills the answer.
+// Where it widens a number by `as`, the number is a `usize`, or becomes one (kept: the C interface has 64 bits for both).
 #![tactic(auto)]
 
 ghost use Rattle.std.specs.Prelude.{◌≡◌};
+ghost use Rattle.refusals.specs.Numbers.{refusal, field};
 ghost use Rattle.mistdrover.specs.Face.{eight, FaceRead, FaceRun, FaceCheck, FaceFind, FaceLevel};
 
-fn fill(answer: &mut [u64; 8], a: u64, b: u64, c: u64)
-    ensures { answer.new ≡ eight a b c }
+use refusals::{Refusal, number_of};
+
+// Fills the answer with three fields, 0 on a refusal, and returns the refusal's number.
+fn told(fields: Result<(u64, u64, u64), Refusal>, answer: &mut [u64; 8]) -> u32
+    ensures number { result ≡ refusal fields }
+    ensures filled { answer.new ≡ eight (field (λ f. f.0) fields) (field (λ f. f.1) fields) (field (λ f. f.2) fields) }
 {
+    let (a, b, c) = fields.unwrap_or((0, 0, 0));
     *answer = [a, b, c, 0, 0, 0, 0, 0];
+    u32::from(number_of(&fields))
 }
 
 #[unsafe(no_mangle)]
 pub extern "C" fn md_read(book: &[u8], answer: &mut [u64; 8]) -> u32
     ensures { FaceRead book.now result answer.new }
 {
-    let a = book::read(book);
-    fill(answer, a.size as u64, 0, 0);
-    a.refusal as u32
+    told(book::read(book).map(|size| (size as u64, 0, 0)), answer)
 }
 
 #[unsafe(no_mangle)]
@@ -31,26 +37,34 @@ pub extern "C" fn md_run(
 ) -> u32
     ensures { FaceRun book.now procedure inputs.now budget work.old result answer.new work.new }
 {
-    let a = runner::run(book, procedure as usize, inputs, budget, work);
-    fill(answer, a.ending as u64, a.value as u64, a.steps);
-    a.refusal as u32
+    let ran = runner::run(book, procedure as usize, inputs, budget, work);
+    let fields = ran.map(|ran| {
+        let ending = ran.ending;
+        (
+            u64::from(ending.number()),
+            u64::from(ending.value()),
+            ran.steps,
+        )
+    });
+    told(fields, answer)
 }
 
 #[unsafe(no_mangle)]
 pub extern "C" fn md_check(book: &[u8], summary: &[u8], answer: &mut [u64; 8]) -> u32
     ensures { FaceCheck book.now summary.now result answer.new }
 {
-    fill(answer, 0, 0, 0);
-    flow::check(book, summary) as u32
+    told(flow::check(book, summary).map(|()| (0, 0, 0)), answer)
 }
 
 #[unsafe(no_mangle)]
 pub extern "C" fn md_find(book: &[u8], buffer: &mut [u8], answer: &mut [u64; 8]) -> u32
     ensures { FaceFind book.now buffer.old result answer.new buffer.new }
 {
-    let a = flow::find(book, buffer);
-    fill(answer, a.size as u64, a.rounds as u64, 0);
-    a.refusal as u32
+    let found = flow::find(book, buffer);
+    told(
+        found.map(|found| (found.size as u64, found.rounds as u64, 0)),
+        answer,
+    )
 }
 
 #[unsafe(no_mangle)]
@@ -64,7 +78,6 @@ pub extern "C" fn md_level(
 ) -> u32
     ensures { FaceLevel book.now table.now procedure levels.now summary.now result answer.new }
 {
-    let a = reporter::level(book, table, procedure, levels, summary);
-    fill(answer, a.level as u64, 0, 0);
-    a.refusal as u32
+    let level = reporter::level(book, table, procedure, levels, summary);
+    told(level.map(|level| (u64::from(level), 0, 0)), answer)
 }

@@ -4,28 +4,28 @@ use std::io;
 
 // Refusal 2: the number of procedures, and contents that are cut.
 fn counts(rt: &impl Print) -> io::Result<()> {
-    show(rt, b"no-procedure", b"\x00")?;
-    show(rt, b"count-alone", b"\x01")?;
-    show(rt, b"contents-cut", b"\x01\x07\x00\x00\x00\x00")?;
-    show(rt, b"33-procedures-cut", b"\x21\xc7\x00")?;
-    show(rt, b"255-procedures", b"\xff\x00\x00\x00\x00\x00\x00")
+    show(rt, "no-procedure", b"\x00")?;
+    show(rt, "count-alone", b"\x01")?;
+    show(rt, "contents-cut", b"\x01\x07\x00\x00\x00\x00")?;
+    show(rt, "33-procedures-cut", b"\x21\xc7\x00")?;
+    show(rt, "255-procedures", b"\xff\x00\x00\x00\x00\x00\x00")
 }
 
 // Refusal 2: an offset.
 fn offsets(rt: &impl Print) -> io::Result<()> {
     show(
         rt,
-        b"offset-early",
+        "offset-early",
         b"\x01\x06\x00\x03\x00\x01\x00\x04\x11\x00",
     )?;
     show(
         rt,
-        b"offset-late",
+        "offset-late",
         b"\x01\x08\x00\x03\x00\x01\x00\x04\x11\x00",
     )?;
     show(
         rt,
-        b"offset-high-byte",
+        "offset-high-byte",
         b"\x01\x07\x01\x03\x00\x01\x00\x04\x11\x00",
     )
 }
@@ -34,17 +34,17 @@ fn offsets(rt: &impl Print) -> io::Result<()> {
 fn sizes(rt: &impl Print) -> io::Result<()> {
     show(
         rt,
-        b"length-short",
+        "length-short",
         b"\x01\x07\x00\x02\x00\x01\x00\x04\x11\x00",
     )?;
     show(
         rt,
-        b"length-long",
+        "length-long",
         b"\x01\x07\x00\x04\x00\x01\x00\x04\x11\x00",
     )?;
     show(
         rt,
-        b"length-largest",
+        "length-largest",
         b"\x01\x07\x00\xff\xff\x01\x00\x04\x11\x00",
     )
 }
@@ -53,17 +53,17 @@ fn sizes(rt: &impl Print) -> io::Result<()> {
 fn turns(rt: &impl Print) -> io::Result<()> {
     show(
         rt,
-        b"bodies-apart",
+        "bodies-apart",
         b"\x02\x0d\x00\x03\x00\x01\x00\x11\x00\x03\x00\x01\x00\x04\x11\x00\x00\x04\x11\x00",
     )?;
     show(
         rt,
-        b"bodies-overlap",
+        "bodies-overlap",
         b"\x02\x0d\x00\x03\x00\x01\x00\x0f\x00\x03\x00\x01\x00\x04\x11\x00\x04\x11\x00",
     )?;
     show(
         rt,
-        b"bodies-swapped",
+        "bodies-swapped",
         b"\x02\x10\x00\x03\x00\x01\x00\x0d\x00\x03\x00\x01\x00\x04\x11\x00\x04\x11\x00",
     )
 }
@@ -72,13 +72,13 @@ fn turns(rt: &impl Print) -> io::Result<()> {
 fn ranges(rt: &impl Print) -> io::Result<()> {
     show(
         rt,
-        b"9-parameters",
+        "9-parameters",
         b"\x01\x07\x00\x03\x00\x09\x00\x04\x11\x00",
     )?;
-    show(rt, b"9-locals", b"\x01\x07\x00\x03\x00\x00\x09\x04\x11\x00")?;
+    show(rt, "9-locals", b"\x01\x07\x00\x03\x00\x00\x09\x04\x11\x00")?;
     show(
         rt,
-        b"contents-before-body",
+        "contents-before-body",
         b"\x01\x07\x00\x01\x00\x09\x00\x06",
     )
 }

@@ -4,51 +4,47 @@ use std::io;
 
 // Refusal 3, reason 1: the body ended early.
 fn ended(rt: &impl Print) -> io::Result<()> {
-    show(rt, b"empty-body", b"\x01\x07\x00\x00\x00\x01\x00")?;
+    show(rt, "empty-body", b"\x01\x07\x00\x00\x00\x01\x00")?;
     show(
         rt,
-        b"empty-second-body",
+        "empty-second-body",
         b"\x02\x0d\x00\x03\x00\x01\x00\x10\x00\x00\x00\x01\x00\x04\x11\x00",
     )?;
-    show(rt, b"return-alone", b"\x01\x07\x00\x01\x00\x01\x00\x04")?;
+    show(rt, "return-alone", b"\x01\x07\x00\x01\x00\x01\x00\x04")?;
     show(
         rt,
-        b"constant-cut",
+        "constant-cut",
         b"\x01\x07\x00\x05\x00\x00\x00\x04\x10\x01\x02\x03",
     )
 }
 
 // The same in an expression.
 fn ended_expressions(rt: &impl Print) -> io::Result<()> {
-    show(rt, b"variable-cut", b"\x01\x07\x00\x02\x00\x01\x00\x04\x11")?;
+    show(rt, "variable-cut", b"\x01\x07\x00\x02\x00\x01\x00\x04\x11")?;
+    show(rt, "operation-cut", b"\x01\x07\x00\x02\x00\x01\x00\x04\x12")?;
     show(
         rt,
-        b"operation-cut",
-        b"\x01\x07\x00\x02\x00\x01\x00\x04\x12",
-    )?;
-    show(
-        rt,
-        b"operand-missing",
+        "operand-missing",
         b"\x01\x07\x00\x05\x00\x01\x00\x04\x12\x00\x11\x00",
     )?;
     show(
         rt,
-        b"argument-missing",
+        "argument-missing",
         b"\x01\x07\x00\x05\x00\x02\x00\x04\x13\x00\x11\x00",
     )
 }
 
 // The same in a command.
 fn ended_commands(rt: &impl Print) -> io::Result<()> {
-    show(rt, b"set-cut", b"\x01\x07\x00\x01\x00\x01\x00\x01")?;
+    show(rt, "set-cut", b"\x01\x07\x00\x01\x00\x01\x00\x01")?;
     show(
         rt,
-        b"no-closing",
+        "no-closing",
         b"\x01\x07\x00\x04\x00\x01\x00\x01\x00\x11\x00",
     )?;
     show(
         rt,
-        b"run-not-ended",
+        "run-not-ended",
         b"\x01\x07\x00\x07\x00\x01\x00\x03\x11\x00\x01\x00\x11\x00",
     )
 }
@@ -56,32 +52,32 @@ fn ended_commands(rt: &impl Print) -> io::Result<()> {
 fn ended_branches(rt: &impl Print) -> io::Result<()> {
     show(
         rt,
-        b"second-branch-missing",
+        "second-branch-missing",
         b"\x01\x07\x00\x04\x00\x01\x00\x02\x11\x00\x00",
     )?;
     show(
         rt,
-        b"second-closing-missing",
+        "second-closing-missing",
         b"\x01\x07\x00\x06\x00\x01\x00\x05\x11\x00\x04\x11\x00",
     )
 }
 
 // Refusal 3, reason 3: an unknown code.
 fn unknown(rt: &impl Print) -> io::Result<()> {
-    show(rt, b"code-06", b"\x01\x07\x00\x03\x00\x01\x00\x06\x11\x00")?;
+    show(rt, "code-06", b"\x01\x07\x00\x03\x00\x01\x00\x06\x11\x00")?;
     show(
         rt,
-        b"00-in-a-closing-sequence",
+        "00-in-a-closing-sequence",
         b"\x01\x07\x00\x04\x00\x01\x00\x00\x04\x11\x00",
     )?;
     show(
         rt,
-        b"return-in-a-run",
+        "return-in-a-run",
         b"\x01\x07\x00\x0a\x00\x01\x00\x03\x11\x00\x04\x11\x00\x00\x04\x11\x00",
     )?;
     show(
         rt,
-        b"command-for-expression",
+        "command-for-expression",
         b"\x01\x07\x00\x05\x00\x01\x00\x04\x01\x00\x11\x00",
     )
 }
@@ -89,17 +85,17 @@ fn unknown(rt: &impl Print) -> io::Result<()> {
 fn unknown_expressions(rt: &impl Print) -> io::Result<()> {
     show(
         rt,
-        b"expression-for-command",
+        "expression-for-command",
         b"\x01\x07\x00\x05\x00\x01\x00\x11\x00\x04\x11\x00",
     )?;
     show(
         rt,
-        b"code-14",
+        "code-14",
         b"\x01\x07\x00\x04\x00\x01\x00\x04\x14\x11\x00",
     )?;
     show(
         rt,
-        b"code-ff-as-operand",
+        "code-ff-as-operand",
         b"\x01\x07\x00\x06\x00\x01\x00\x04\x12\x00\x11\x00\xff",
     )
 }
@@ -108,22 +104,22 @@ fn unknown_expressions(rt: &impl Print) -> io::Result<()> {
 fn variables(rt: &impl Print) -> io::Result<()> {
     show(
         rt,
-        b"variable-at-count",
+        "variable-at-count",
         b"\x01\x07\x00\x03\x00\x01\x01\x04\x11\x02",
     )?;
     show(
         rt,
-        b"variable-255",
+        "variable-255",
         b"\x01\x07\x00\x03\x00\x01\x00\x04\x11\xff",
     )?;
     show(
         rt,
-        b"no-variables",
+        "no-variables",
         b"\x01\x07\x00\x03\x00\x00\x00\x04\x11\x00",
     )?;
     show(
         rt,
-        b"set-at-count",
+        "set-at-count",
         b"\x01\x07\x00\x07\x00\x01\x01\x01\x02\x11\x00\x04\x11\x00",
     )
 }
@@ -132,22 +128,22 @@ fn variables(rt: &impl Print) -> io::Result<()> {
 fn operations(rt: &impl Print) -> io::Result<()> {
     show(
         rt,
-        b"operation-8",
+        "operation-8",
         b"\x01\x07\x00\x07\x00\x01\x00\x04\x12\x08\x11\x00\x11\x00",
     )?;
     show(
         rt,
-        b"operation-255",
+        "operation-255",
         b"\x01\x07\x00\x07\x00\x01\x00\x04\x12\xff\x11\x00\x11\x00",
     )?;
     show(
         rt,
-        b"procedure-at-count",
+        "procedure-at-count",
         b"\x01\x07\x00\x05\x00\x01\x00\x04\x13\x01\x11\x00",
     )?;
     show(
         rt,
-        b"procedure-255",
+        "procedure-255",
         b"\x01\x07\x00\x05\x00\x01\x00\x04\x13\xff\x11\x00",
     )
 }
@@ -156,17 +152,17 @@ fn operations(rt: &impl Print) -> io::Result<()> {
 fn left_over(rt: &impl Print) -> io::Result<()> {
     show(
         rt,
-        b"left-over-00",
+        "left-over-00",
         b"\x01\x07\x00\x04\x00\x01\x00\x04\x11\x00\x00",
     )?;
     show(
         rt,
-        b"left-over-return",
+        "left-over-return",
         b"\x01\x07\x00\x06\x00\x01\x00\x04\x11\x00\x04\x11\x00",
     )?;
     show(
         rt,
-        b"left-over-after-pick",
+        "left-over-after-pick",
         b"\x01\x07\x00\x0a\x00\x01\x00\x05\x11\x00\x04\x11\x00\x04\x11\x00\x00",
     )
 }
@@ -175,12 +171,12 @@ fn left_over(rt: &impl Print) -> io::Result<()> {
 fn places(rt: &impl Print) -> io::Result<()> {
     show(
         rt,
-        b"fault-in-second-body",
+        "fault-in-second-body",
         b"\x02\x0d\x00\x03\x00\x01\x00\x10\x00\x07\x00\x00\x01\x04\x11\x00\x01\x00\x11\x01\x04\x11\x00",
     )?;
     show(
         rt,
-        b"first-of-two-faults",
+        "first-of-two-faults",
         b"\x02\x0d\x00\x03\x00\x01\x00\x10\x00\x04\x00\x01\x00\x04\x12\x09\x04\x11\x00\x00",
     )
 }

@@ -1,146 +1,124 @@
 -- What the reporter answers, way by way through its tests.
 use mathlib.Core.Path.{◌≡◌, refl, sym, ◌∙◌}
-use mathlib.Core.Bool.{Bool, true, false, not, and-false}
+use mathlib.Core.Bool.{Bool, true, false, not}
 use mathlib.Core.List.{List, [], ◌∷◌}
 use mathlib.Core.Option.{none}
 use Prim.Native.Nat.{ℕ, zero, suc, ◌+◌, ◌*◌, ◌≤◌, ◌<◌}
 use native.Mathlib.Omega.{arith}
-use borrow.Author.Tests.{not-true, not-false, eqb-true, eq-eqb, ne_eqb}
+use borrow.Author.Tests.{not-true, eqb-true}
 use lib.Dec.{eqb}
 use lib.ListN.{length, get_or, get_elem?}
 use Rattle.meaning.specs.Limits.{most_parameters}
 use Rattle.meaning.specs.Sets.{empty}
-use Rattle.meaning.specs.Reading.{procedures, entry}
+use Rattle.meaning.specs.Reading.{procedures}
 use Rattle.meaning.specs.Flow.{at, size}
 use Rattle.meaning.specs.Levels.{valid, reported}
-use Rattle.meaning.specs.Answers.{LevelAnswer, check_book, check_answer, no_level, fitting, level_of, level_book, level_answer}
-use Rattle.meaning.specs.Entries.{Checks, Reports}
-use Rattle.meaning.proofs.Lists.{both}
+use Rattle.meaning.specs.Answers.{check_book, check_answer, no_level, fitting, level_of, level_book, level_answer}
+use Rattle.meaning.specs.Entries.{Reads, Checks, Reports}
+use Rattle.meaning.proofs.Lists.{none_beyond, both_left}
 use Rattle.meaning.proofs.Places.{result_place}
 use Rattle.book.proofs.Readable.{ProcedureView}
 use Rattle.book.proofs.Sound.{book_facts, procedure_view}
-use Rattle.book.proofs.Answer.{Rejected}
-use Rattle.flow.specs.Settling.{Sized}
-use Rattle.reporter.specs.Parts.{RefusedPost, AskedPre, FittedPre, all_below}
+use Rattle.book.proofs.Answer.{accepted, rejected}
+use Rattle.refusals.specs.declared.Refusal.{Refusal}
+use Rattle.refusals.specs.Numbers.{number}
+use Rattle.refusals.proofs.OneNumber.{some_number}
+use Rattle.book.specs.Here.{BookHere}
+use Rattle.reporter.specs.Parts.{all_below, fitting_here}
 
--- A number at or above the length names no element.
-none_beyond : {A : Type 0} (l : List A) (i : ℕ) → length l ≤ i → get_elem? l i ≡ none
-none_beyond [] i h = refl
-none_beyond (a ∷ l) zero h = absurd (omega arith)
-none_beyond (a ∷ l) (suc i) h = none_beyond l i (omega arith)
-
--- The definition's answer under a valid table, test by test.
-module _ (b t ls σ : List ℕ) (p : ℕ) {n : ℕ} (g : AskedPre b n t) where
-  of_book : level_answer b t p ls σ ≡ level_book g.sized.book.book t p ls σ
+-- The definition's answer for a readable book, test by test.
+module _ (b t ls σ : List ℕ) (p : ℕ) (g : BookHere b) where
+  of_book : level_answer b t p ls σ ≡ level_book g.book t p ls σ
   unfolding level_answer
-  of_book = rw (g.sized.book.is, level_answer)
+  of_book = rw (g.is, level_answer)
 
-  no_procedure : procedures b ≤ p → level_answer b t p ls σ ≡ no_level 6
+  no_table : valid t ≡ false → level_answer b t p ls σ ≡ no_level 5
   unfolding level_book
-  no_procedure h = of_book ∙ rw (g.valid_table, level_book, none_beyond g.sized.book.book p (omega (arith, (book_facts g.sized.book).counted)))
+  no_table v = of_book ∙ rw (v, level_book)
 
-  module _ (k : p < procedures b) where
-    view : ProcedureView b g.sized.book p
-    view = procedure_view g.sized.book p k
-
-    fits : (f : Bool) → fitting t view.procedure ls ≡ f →
-        level_answer b t p ls σ ≡ (elim f [ false ↦ no_level 7 | true ↦ level_of g.sized.book.book t p view.procedure ls σ ])
+  module _ (v : valid t ≡ true) where
+    no_procedure : procedures b ≤ p → level_answer b t p ls σ ≡ no_level 6
     unfolding level_book
-    fits f e = of_book ∙ rw (g.valid_table, level_book, view.found, e)
+    no_procedure h = of_book ∙ rw (v, level_book, none_beyond g.book p (omega (arith, (book_facts g).counted)))
 
-    one_high : all_below t ls ≡ false → level_answer b t p ls σ ≡ no_level 7
-    unfolding fitting all_below
-    one_high e = fits false (rw e (and-false (eqb (length ls) view.procedure.parameters)))
+    module _ (k : p < procedures b) where
+      view : ProcedureView b g p
+      view = procedure_view g p k
 
-    miscounted : (length ls ≡ (entry b p).parameters → ⊥) → level_answer b t p ls σ ≡ no_level 7
-    unfolding fitting
-    miscounted u = fits false (rw (ne_eqb (length ls) view.procedure.parameters λ e. u (e ∙ view.parameters)))
+      fits : (f : Bool) → fitting_here b t p ls ≡ f →
+          level_answer b t p ls σ ≡ (elim f [ false ↦ no_level 7 | true ↦ level_of g.book t p view.procedure ls σ ])
+      unfolding level_book fitting all_below
+      fits f e = of_book ∙ rw (v, level_book, view.found, view.parameters, e)
 
--- The same where the levels fit.
-module _ (b t ls σ : List ℕ) (p : ℕ) {n : ℕ} (g : FittedPre b n t p ls) where
-  reported_of : level_answer b t p ls σ ≡ level_of g.asked.sized.book.book t p (view b t ls σ p g.asked g.known).procedure ls σ
-  unfolding fitting all_below
-  reported_of =
-      let v = view b t ls σ p g.asked g.known in
-      fits b t ls σ p g.asked g.known true
-      (both (eq-eqb (length ls) v.procedure.parameters (g.counted ∙ sym v.parameters)) g.low)
+      no_summary : fitting_here b t p ls ≡ true → {n : ℕ} → check_answer b σ ≡ suc n → level_answer b t p ls σ ≡ no_level (suc n)
+      unfolding check_answer level_of
+      no_summary e h = fits true e ∙ rw ((rw (g.is, check_answer) at h), level_of)
 
-  accepted : check_answer b σ ≡ 0 → level_answer b t p ls σ ≡ record { refusal = 0; level = reported t ls (length ls) (at σ p) }
-  unfolding check_answer level_of
-  accepted h =
-      let f : check_book g.asked.sized.book.book σ ≡ 0 = rw (g.asked.sized.book.is, check_answer) at h in
-      let v = view b t ls σ p g.asked g.known in
-      let c : v.procedure.parameters ≡ length ls = v.parameters ∙ sym g.counted in
-      reported_of ∙ rw (f, level_of, c)
-
-  not_accepted : (n : ℕ) → check_answer b σ ≡ n → (n ≡ 0 → ⊥) → level_answer b t p ls σ ≡ no_level n
-  unfolding check_answer level_of
-  not_accepted zero h u = absurd (u refl)
-  not_accepted (suc n) h u =
-      let f : check_book g.asked.sized.book.book σ ≡ suc n = rw (g.asked.sized.book.is, check_answer) at h in
-      reported_of ∙ rw (f, level_of)
+      reported_as : fitting_here b t p ls ≡ true → check_answer b σ ≡ 0 →
+          level_answer b t p ls σ ≡ record { refusal = 0; level = reported t ls (length ls) (at σ p) }
+      unfolding check_answer level_of
+      reported_as e h =
+          let c : view.procedure.parameters ≡ length ls = view.parameters ∙ sym (eqb-true _ _ (both_left _ (all_below t ls) e)) in
+          fits true e ∙ rw ((rw (g.is, check_answer) at h), level_of, c)
 
 -- What the contract asks at each end of the code.
-module _ {b t ls σ : List ℕ} {p a l : ℕ} where
-  told : (x : LevelAnswer) → level_answer b t p ls σ ≡ x → a ≡ x.refusal → l ≡ x.level → Reports b t p ls σ a l
-  told x e i j = record { refusal_is = rw e i; level_is = rw e j }
-
-  told_refused : (n : ℕ) → level_answer b t p ls σ ≡ no_level n → RefusedPost n a l → Reports b t p ls σ a l
+module _ (b t ls σ : List ℕ) (p : ℕ) where
+  told_refused : (n : ℕ) → level_answer b t p ls σ ≡ no_level n → Reports b t p ls σ n 0
   unfolding no_level
-  told_refused n e q = told _ e q.refusal_is q.level_is
+  told_refused n e = record { refusal_is = rw e; level_is = rw e }
 
-  pub book_refused : {r : ℕ} → Rejected b r → RefusedPost r a l → Reports b t p ls σ a l
+  pub book_refused : (r : Refusal) {s : ℕ} → Reads b (number r) s → Reports b t p ls σ (number r) 0
   unfolding level_answer
-  book_refused {r} w q = told_refused r (rw (w.is, level_answer, w.number)) q
+  book_refused r h = let w = rejected r h in told_refused (number r) (rw (w.is, level_answer, w.number))
 
-  pub table_refused : {v : Bool} {n : ℕ} → Sized b n → v ≡ valid t → not v ≡ true → RefusedPost 5 a l → Reports b t p ls σ a l
-  unfolding level_answer level_book
-  table_refused {v} g e f = told_refused 5 (rw (g.book.is, level_answer, level_book, ← e, not-true v f))
+  module _ {s : ℕ} (h : Reads b 0 s) where
+    here : BookHere b
+    here = (accepted h).book
 
-  module _ {m n : ℕ} (g : AskedPre b n t) (e : m ≡ procedures b) where
-    pub procedure_refused : m ≤ p → RefusedPost 6 a l → Reports b t p ls σ a l
-    procedure_refused h = told_refused 6 (no_procedure b t ls σ p g (rw e at h))
+    pub table_refused : {v : Bool} → v ≡ valid t → not v ≡ true → Reports b t p ls σ 5 0
+    table_refused {v} e u = told_refused 5 (no_table b t ls σ p here (sym e ∙ not-true v u))
 
-    pub level_refused : p < m → {v : Bool} → v ≡ all_below t ls → not v ≡ true → RefusedPost 7 a l → Reports b t p ls σ a l
-    level_refused h {v} f u = told_refused 7 (one_high b t ls σ p g (rw e at h) (sym f ∙ not-true v u))
+    module _ (v : valid t ≡ true) {n : ℕ} (c : n ≡ procedures b) where
+      pub procedure_refused : n ≤ p → Reports b t p ls σ 6 0
+      procedure_refused k = told_refused 6 (no_procedure b t ls σ p here v (omega arith))
 
-    pub levels_refused : p < m → {c : ℕ} → c ≡ (entry b p).parameters → (length ls ≡ c → ⊥) → RefusedPost 7 a l → Reports b t p ls σ a l
-    levels_refused h f w = told_refused 7 (miscounted b t ls σ p g (rw e at h) λ q. w (q ∙ sym f))
+      pub levels_refused : p < n → {f : Bool} → f ≡ fitting_here b t p ls → not f ≡ true → Reports b t p ls σ 7 0
+      levels_refused k {f} d m = told_refused 7 (fits b t ls σ p here v (omega arith) false (sym d ∙ not-true f m))
 
-  module _ {n : ℕ} (g : FittedPre b n t p ls) {r : ℕ} (d : Checks b σ r) where
-    pub summary_refused : (r ≡ 0 → ⊥) → RefusedPost r a l → Reports b t p ls σ a l
-    summary_refused w = told_refused r (not_accepted b t ls σ p g r (sym d.refusal_is) w)
+      module _ (k : p < n) (f : fitting_here b t p ls ≡ true) where
+        known : p < procedures b
+        known = omega arith
 
-    pub level_reported : r ≡ 0 → a ≡ 0 → l ≡ reported t ls (length ls) (get_or σ p 0) → Reports b t p ls σ a l
-    unfolding at empty
-    level_reported w i j = told _ (accepted b t ls σ p g (sym d.refusal_is ∙ w)) i j
+        pub summary_refused : (r : Refusal) → Checks b σ (number r) → Reports b t p ls σ (number r) 0
+        summary_refused r q = go (number r) (sym q.refusal_is) (some_number r)
+          where
+            go : (n : ℕ) → check_answer b σ ≡ n → 1 ≤ n → Reports b t p ls σ n 0
+            go zero q l = absurd (omega arith)
+            go (suc n) q l = told_refused (suc n) (no_summary b t ls σ p here v known f q)
 
--- What is known once a test is passed.
-module _ {b t : List ℕ} {s : ℕ} where
-  pub both_taken : {v : Bool} → Sized b s → v ≡ valid t → not v ≡ false → AskedPre b s t
-  both_taken {v} g e u = record { sized = g; valid_table = sym e ∙ not-false v u }
+        pub level_reported : Checks b σ 0 → {l : ℕ} → l ≡ reported t ls (length ls) (get_or σ p 0) → Reports b t p ls σ 0 l
+        unfolding at empty
+        level_reported q i =
+            let x = reported_as b t ls σ p here v known f (sym q.refusal_is) in
+            record { refusal_is = rw x; level_is = rw x i }
 
-  pub first_there : AskedPre b s t → 0 < length b
-  first_there g = (book_facts g.sized.book).some_bytes
+        pub few_levels : length ls ≤ most_parameters
+        few_levels = rw (eqb-true _ _ (both_left _ (all_below t ls) f)) ((book_facts here).few_parameters p known)
 
-  pub entry_there : {p m : ℕ} → AskedPre b s t → m ≡ procedures b → p < m → 1 + 6 * p + 4 < length b
-  entry_there g e h = omega (arith, (book_facts g.sized.book).contents)
+        -- An accepted summary has a set for each procedure.
+        pub result_there : Checks b σ 0 → p < length σ
+        unfolding check_answer check_book
+        result_there q = go (eqb (length σ) (size here.book)) refl
+          where
+            go : (x : Bool) → eqb (length σ) (size here.book) ≡ x → p < length σ
+            go true w =
+                let z = eqb-true (length σ) (size here.book) w in
+                omega (arith, result_place here.book p (procedure_view here p known).found)
+            go false w = let z : ◌≡◌ {A = ℕ} 0 8 = q.refusal_is ∙ rw (here.is, check_answer, w, check_book) in absurd (omega arith)
 
-  pub all_fit : {ls : List ℕ} {p m n : ℕ} {v : Bool} → n ≡ (entry b p).parameters → length ls ≡ n → v ≡ all_below t ls → not v ≡ false →
-      m ≡ procedures b → p < m → AskedPre b s t → FittedPre b s t p ls
-  all_fit {v = v} c q f u e h g = record { asked = g; known = rw e at h; low = sym f ∙ not-false v u; counted = q ∙ c }
+-- The first byte and the entries of a readable book.
+pub first_there : {b : List ℕ} {s : ℕ} → Reads b 0 s → 0 < length b
+first_there h = (book_facts (accepted h).book).some_bytes
 
-module _ {b t ls : List ℕ} {s p : ℕ} (g : FittedPre b s t p ls) where
-  pub few_levels : length ls ≤ most_parameters
-  few_levels = rw g.counted ((book_facts g.asked.sized.book).few_parameters p g.known)
-
-  -- An accepted summary has a set for each procedure.
-  pub result_there : {σ : List ℕ} {r : ℕ} → Checks b σ r → r ≡ 0 → p < length σ
-  unfolding check_answer check_book
-  result_there {σ} {r} d w = go (eqb (length σ) (size g.asked.sized.book.book)) refl
-    where
-      go : (x : Bool) → eqb (length σ) (size g.asked.sized.book.book) ≡ x → p < length σ
-      go true q =
-          let z = eqb-true (length σ) (size g.asked.sized.book.book) q in
-          omega (arith, result_place g.asked.sized.book.book p (procedure_view g.asked.sized.book p g.known).found)
-      go false q = let z : r ≡ 8 = d.refusal_is ∙ rw (g.asked.sized.book.is, check_answer, q, check_book) in absurd (omega arith)
+pub entry_there : {b : List ℕ} {p n s : ℕ} → Reads b 0 s → n ≡ procedures b → p < n → 7 + 6 * p ≤ length b
+entry_there h e k = omega (arith, (book_facts (accepted h).book).contents)

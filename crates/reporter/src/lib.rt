@@ -1,97 +1,32 @@
 // The level reporter: the refusals in the order of their numbers, or the level of a procedure's answer.
 #![tactic(auto)]
 
-ghost use Rattle.std.specs.Prelude.{◌≡◌};
+ghost use Rattle.std.specs.Prelude.{◌≡◌, ◌+◌, ◌*◌, ◌≤◌, length};
 ghost use Rattle.meaning.specs.Entries.{Reports};
-ghost use Rattle.flow.specs.Settling.{Sized};
-ghost use Rattle.reporter.specs.Parts.{RefusedPost, AskedPre, FittedPre, all_below};
+ghost use Rattle.refusals.specs.Numbers.{refusal, field};
+ghost use Rattle.reporter.specs.Parts.{all_below, fitting_here};
 
-use book::bytes::number;
-use book::read;
+use book::Book;
+use book::entry::parameters;
 use flow::check_readable;
 use levels::{count, reported, valid};
+use refusals::Refusal;
 use sets::Set;
-
-// The refusal, 0 where there is none, and the level.
-#[derive(Clone, Copy)]
-pub struct LevelAnswer {
-    pub refusal: u8,
-    pub level: u8,
-}
-
-// A refusal has every other field 0.
-fn refused(number: u8) -> LevelAnswer
-    ensures { RefusedPost number result.refusal result.level }
-{
-    LevelAnswer {
-        refusal: number,
-        level: 0,
-    }
-}
 
 // Each of the levels is below n.
 fn below(table: &[u8], levels: &[u8]) -> bool
     ensures { result ≡ all_below table.now levels.now }
 {
     let n = count(table);
-    for i in 0..levels.len() {
-        if n <= levels[i] {
-            return false;
-        }
-    }
-    true
+    levels.iter().all(|level| *level < n)
 }
 
-// What is asked with levels that fit.
-fn by_summary(
-    book: &[u8],
-    size: usize,
-    table: &[u8],
-    p: usize,
-    levels: &[u8],
-    summary: &[u8],
-) -> LevelAnswer
-    requires { FittedPre book.now size table.now p levels.now }
-    ensures { Reports book.now table.now p levels.now summary.now result.refusal result.level }
+// There is a level for each parameter of procedure p, and each is in the table.
+fn fitting(book: &[u8], table: &[u8], p: usize, levels: &[u8]) -> bool
+    requires { 7 + 6 * p ≤ length book.now }
+    ensures { result ≡ fitting_here book.now table.now p levels.now }
 {
-    let checked = check_readable(book, size, summary);
-    if checked != 0 {
-        return refused(checked);
-    }
-    let set = summary[p];
-    let n = levels.len();
-    LevelAnswer {
-        refusal: 0,
-        level: reported(table, levels, n, Set { bits: set }),
-    }
-}
-
-// What is asked of a readable book under a valid table.
-fn asked(
-    book: &[u8],
-    size: usize,
-    table: &[u8],
-    procedure: u64,
-    levels: &[u8],
-    summary: &[u8],
-) -> LevelAnswer
-    requires { AskedPre book.now size table.now }
-    ensures { Reports book.now table.now procedure levels.now summary.now result.refusal result.level }
-{
-    let procedures = number(book[0]) as u64;
-    let low = below(table, levels);
-    if procedures <= procedure {
-        return refused(6);
-    }
-    if !low {
-        return refused(7);
-    }
-    let p = procedure as usize;
-    if levels.len() == number(book[1 + 6 * p + 4]) {
-        by_summary(book, size, table, p, levels, summary)
-    } else {
-        refused(7)
-    }
+    levels.len() == parameters(book, p) && below(table, levels)
 }
 
 // The level of procedure `procedure`'s answer, its parameters having these levels, by a summary that satisfies the rules.
@@ -101,30 +36,33 @@ pub fn level(
     procedure: u64,
     levels: &[u8],
     summary: &[u8],
-) -> LevelAnswer
-    ensures { Reports book.now table.now procedure levels.now summary.now result.refusal result.level }
+) -> Result<u8, Refusal>
+    ensures { Reports book.now table.now procedure levels.now summary.now (refusal result) (field (λ l. l) result) }
 {
-    let answer = read(book);
-    if answer.refusal != 0 {
-        return refused(answer.refusal);
-    }
-    level_readable(book, answer.size, table, procedure, levels, summary)
+    level_readable(Book::read(book)?, table, procedure, levels, summary)
 }
 
-// The same for a book that is known to be readable, whose summaries have this size.
+// The same for a book that is known to be readable.
 pub fn level_readable(
-    book: &[u8],
-    size: usize,
+    book: Book,
     table: &[u8],
     procedure: u64,
     levels: &[u8],
     summary: &[u8],
-) -> LevelAnswer
-    requires { Sized book.now size }
-    ensures { Reports book.now table.now procedure levels.now summary.now result.refusal result.level }
+) -> Result<u8, Refusal>
+    ensures { Reports book.entry.bytes.now table.now procedure levels.now summary.now (refusal result) (field (λ l. l) result) }
 {
     if !valid(table) {
-        return refused(5);
+        return Err(Refusal::Table);
     }
-    asked(book, size, table, procedure, levels, summary)
+    if u64::from(book.bytes[0]) <= procedure {
+        return Err(Refusal::Procedure);
+    }
+    // The test leaves a number of one byte (kept: a conversion that can fail would have a way out that is never taken).
+    let p = procedure as usize;
+    if !fitting(book.bytes, table, p, levels) {
+        return Err(Refusal::Inputs);
+    }
+    check_readable(book, summary)?;
+    Ok(reported(table, levels, levels.len(), Set::from(summary[p])))
 }

@@ -1,5 +1,5 @@
 -- The public answer, way by way.
-use Rattle.std.proofs.Common.{◌≡◌, ℕ, zero, suc, ◌+◌, ◌-◌, ◌*◌, ◌<◌, ◌≤◌, List, [], ◌∷◌, ◌++◌, length, take, drop, sym, refl, ap, ◌∙◌, arith, length-take-le, eq-eqb, ne_eqb, le-leb}
+use Rattle.std.proofs.Common.{◌≡◌, ℕ, zero, suc, ◌+◌, ◌-◌, ◌*◌, ◌/◌, ◌<◌, ◌≤◌, List, [], ◌∷◌, ◌++◌, length, take, drop, sym, refl, ap, ◌∙◌, arith, length-take-le, eq-eqb, ne_eqb, le-leb}
 use mathlib.Core.Option.{none}
 use borrow.Author.Tests.{lt-leb}
 use lib.ListN.{get_elem?}
@@ -8,14 +8,21 @@ use Rattle.meaning.specs.Reading.{entry, procedures}
 use Rattle.meaning.specs.Running.{yield}
 use Rattle.meaning.specs.Answers.{Ran, RunAnswer, ending_number, ran, run_of, no_run, cleared, run_book, run_answer}
 use Rattle.meaning.specs.Entries.{Reads, Runs}
-use Rattle.book.proofs.Readable.{BookHere}
+use Rattle.meaning.proofs.Lists.{none_beyond}
+use Rattle.book.specs.Here.{BookHere}
 use Rattle.book.proofs.Sound.{book_facts, procedure_view}
+use Rattle.refusals.proofs.OneNumber.{some_number}
 use Rattle.book.proofs.Answer.{accepted, rejected}
 use Rattle.runner.specs.Outcome.{ending_of, outcome}
 use Rattle.runner.specs.Opened.{Opened}
-use Rattle.runner.specs.Answer.{answer_of, HasLeft, HasResult, HasEnding}
-use Rattle.runner.specs.Answering.{RefusedPost, AnsweredPost, StartPre, StartedPost, JudgedPost}
-use Rattle.runner.specs.declared.RunAnswer.{RunAnswer as Answer}
+use Rattle.runner.specs.Answer.{answer_of, HasLeft, HasResult}
+use Rattle.refusals.specs.declared.Refusal.{Refusal}
+use Rattle.refusals.specs.Numbers.{number}
+use Rattle.runner.specs.Endings.{ending_of as ending_of_ran, value_of}
+use Rattle.runner.specs.Answering.{EndsAs, AnsweredPost, StartPre, StartedPost, JudgedPost}
+use Rattle.runner.specs.declared.ran.Ran.{Ran as Answer}
+use Rattle.runner.proofs.Packing.{ending_over, not_ended, has_ended}
+use Rattle.runner.specs.declared.ran.Ending.TheVariants.{Finished, OutOfSteps, TooDeep}
 
 -- All that is known of a readable book.
 abbrev opened : {b : List ℕ} → BookHere b → Opened b
@@ -36,22 +43,17 @@ ran_deep budget zero v l u y = absurd (u refl)
 ran_deep budget (suc e) v l u y = rw (ne_eqb (suc e) 4 y, ending_of)
 
 -- The same of an answer whose parts were read.
-module _ {budget a l e : ℕ} (i : HasLeft a l) (j : HasEnding a e) where
-  pub finished_answer : {v : ℕ} → e ≡ 0 → HasResult a v → AnsweredPost budget a (record { refusal = 0; ending = 1; value = v; steps = budget - l })
-  finished_answer u k = record { refusal = refl; same = rw (i.is, k.is) (ran_finished budget _ _ _ (sym j.is ∙ u)) }
+pub finished_answer : {budget a l v : ℕ} → a < 0x2000000000000000 → HasLeft a l → HasResult a v →
+    AnsweredPost budget a (record { ending = Finished v; steps = budget - l })
+finished_answer {budget} u i k = record { same = rw (i.is, k.is) (ran_finished budget _ _ _ (not_ended u)) }
 
-  pub spent_answer : e ≡ 4 → AnsweredPost budget a (record { refusal = 0; ending = 2; value = 0; steps = budget - l })
-  spent_answer u = record { refusal = refl; same = rw i.is (ran_spent budget _ (answer_of a).value _ (sym j.is ∙ u)) }
+module _ {a : ℕ} (h : 0x8000000000000000 ≤ a) where
+  pub ends_spent : a / 0x2000000000000000 ≡ 4 → EndsAs a OutOfSteps
+  ends_spent e = record { same = λ budget. ran_spent budget _ (answer_of a).value _ (ending_over a h ∙ e) }
 
-  pub deep_answer : (e ≡ 0 → ⊥) → (e ≡ 4 → ⊥) → AnsweredPost budget a (record { refusal = 0; ending = 3; value = 0; steps = budget - l })
-  deep_answer u y =
-      record { refusal = refl; same = rw i.is (ran_deep budget _ (answer_of a).value _ (λ z. u (j.is ∙ z)) (λ z. y (j.is ∙ z))) }
-
--- A number at or above the length names no element.
-none_beyond : {A : Type 0} (l : List A) (i : ℕ) → length l ≤ i → get_elem? l i ≡ none
-none_beyond [] i h = refl
-none_beyond (x ∷ l) zero h = absurd (omega arith)
-none_beyond (x ∷ l) (suc i) h = none_beyond l i (omega arith)
+  pub ends_deep : (a / 0x2000000000000000 ≡ 4 → ⊥) → EndsAs a TooDeep
+  ends_deep u =
+      record { same = λ budget. ran_deep budget _ (answer_of a).value _ (has_ended h) (λ z. u (sym (ending_over a h) ∙ z)) }
 
 -- A readable book's run, test by test: one that fails refuses.
 module _ {b : List ℕ} (g : BookHere b) where
@@ -125,29 +127,29 @@ module _ {b : List ℕ} (g : BookHere b) where
             allowed t = record { allows = λ z. record { known = known; counted = c ∙ k; enough = s; few = t }; refuses = λ z. absurd (z refl) }
 
 -- What holds of a run that is not refused.
-module _ {b : List ℕ} {p inputs budget cells n : ℕ} (j : JudgedPost b p inputs budget cells n) (e : n ≡ 0) where
+module _ {b : List ℕ} {p inputs budget cells : ℕ} (j : JudgedPost b p inputs budget cells 0) where
   -- The inputs are as many as a procedure's parameters, so they fit the eight values of a call.
   pub inputs_few : BookHere b → inputs ≤ 8
-  inputs_few g = let a = j.allows e in omega (arith, a.counted, (book_facts g).few_parameters p a.known)
+  inputs_few g = let a = j.allows refl in omega (arith, a.counted, (book_facts g).few_parameters p a.known)
 
   pub budget_small : budget < 0x100000000
-  budget_small = omega (arith, (j.allows e).few)
+  budget_small = omega (arith, (j.allows refl).few)
 
   pub cells_enough : 1024 ≤ cells
-  cells_enough = (j.allows e).enough
+  cells_enough = (j.allows refl).enough
 
 -- The first 1,024 cells of those that are lent.
-module _ {b : List ℕ} {p inputs budget n : ℕ} (work : List ℕ) (j : JudgedPost b p inputs budget (length work) n) (e : n ≡ 0) where
+module _ {b : List ℕ} {p inputs budget : ℕ} (work : List ℕ) (j : JudgedPost b p inputs budget (length work) 0) where
   pub part_long : 1024 ≡ length (take 1024 work)
-  part_long = sym (length-take-le 1024 work (cells_enough j e))
+  part_long = sym (length-take-le 1024 work (cells_enough j))
 
   pub start_pre : {given : List ℕ} → BookHere b → length given ≡ 8 → StartPre b p given budget (take 1024 work)
-  start_pre g i = let a = j.allows e in record { book = opened g; known = a.known; eight = i; few = a.few; cells = sym part_long }
+  start_pre g i = let a = j.allows refl in record { book = opened g; known = a.known; eight = i; few = a.few; cells = sym part_long }
 
 -- The contract's five equations from an equation of whole answers.
-told : {b : List ℕ} {p : ℕ} {inputs : List ℕ} {budget : ℕ} {work after : List ℕ} {r : Answer} (x : RunAnswer) → run_answer b p inputs budget work ≡ x →
-    r.refusal ≡ x.refusal → record { ending = r.ending; value = r.value; steps = r.steps } ≡ x.run → after ≡ x.work →
-    Runs b p inputs budget work r.refusal r.ending r.value r.steps after
+told : {b : List ℕ} {p : ℕ} {inputs : List ℕ} {budget : ℕ} {work after : List ℕ} {n e v s : ℕ} (x : RunAnswer) → run_answer b p inputs budget work ≡ x →
+    n ≡ x.refusal → record { ending = e; value = v; steps = s } ≡ x.run → after ≡ x.work →
+    Runs b p inputs budget work n e v s after
 told x e i j k =
     let f = j ∙ ap (λ (y : RunAnswer). y.run) (sym e) in
     record {
@@ -158,34 +160,31 @@ told x e i j k =
       work_is = k ∙ ap (λ (y : RunAnswer). y.work) (sym e);
     }
 
--- A refusal leaves the cells as they were.
-told_refused : {b : List ℕ} {p : ℕ} {inputs : List ℕ} {budget : ℕ} {work : List ℕ} {r : Answer} {n : ℕ} →
-    run_answer b p inputs budget work ≡ no_run n work → RefusedPost n r → Runs b p inputs budget work r.refusal r.ending r.value r.steps work
-unfolding no_run
-told_refused e q = told _ e q.refusal (cc (q.ending, q.value, q.steps)) refl
+-- Refusals leave the cells as they were: those of reading come first, and then those of the run.
+module _ {b : List ℕ} {p : ℕ} {inputs : List ℕ} {budget : ℕ} {work : List ℕ} (r : Refusal) where
+  told_refused : run_answer b p inputs budget work ≡ no_run (number r) work → Runs b p inputs budget work (number r) 0 0 0 work
+  unfolding no_run
+  told_refused e = told _ e refl refl refl
 
--- Refusals: those of reading come first, and then those of the run.
-module _ {b : List ℕ} {p : ℕ} {inputs : List ℕ} {budget : ℕ} {work : List ℕ} {n : ℕ} {r : Answer} where
-  pub read_refused : {s : ℕ} → Reads b n s → (n ≡ 0 → ⊥) → RefusedPost n r → Runs b p inputs budget work r.refusal r.ending r.value r.steps work
+  pub read_refused : {s : ℕ} → Reads b (number r) s → Runs b p inputs budget work (number r) 0 0 0 work
   unfolding run_answer
-  read_refused h u q = let x = rejected h u in told_refused (rw (x.is, run_answer, ← x.number)) q
+  read_refused h = let x = rejected r h in told_refused (rw (x.is, run_answer, ← x.number))
 
-  pub judge_refused : JudgedPost b p (length inputs) budget (length work) n → (n ≡ 0 → ⊥) → RefusedPost n r →
-      Runs b p inputs budget work r.refusal r.ending r.value r.steps work
-  judge_refused j u q = told_refused (j.refuses u inputs work refl refl) q
+  pub judge_refused : JudgedPost b p (length inputs) budget (length work) (number r) → Runs b p inputs budget work (number r) 0 0 0 work
+  judge_refused j = told_refused (j.refuses (λ e. let s = some_number r in omega arith) inputs work refl refl)
 
 -- A book without a refusal is readable.
-pub read_accepted : {b : List ℕ} {n s : ℕ} → Reads b n s → n ≡ 0 → BookHere b
-read_accepted h e = (accepted (rw e at h)).here
+pub read_accepted : {b : List ℕ} {s : ℕ} → Reads b 0 s → BookHere b
+read_accepted h = (accepted h).book
 
 -- A run that is not refused.
-module _ {b : List ℕ} (g : BookHere b) {p : ℕ} (inputs : List ℕ) {budget : ℕ} (work : List ℕ) {n : ℕ}
-    (j : JudgedPost b p (length inputs) budget (length work) n) (e : n ≡ 0) where
+module _ {b : List ℕ} (g : BookHere b) {p : ℕ} (inputs : List ℕ) {budget : ℕ} (work : List ℕ)
+    (j : JudgedPost b p (length inputs) budget (length work) 0) where
   -- Every test of the definition is passed.
   let_through : run_answer b p inputs budget work ≡ record { refusal = 0; run = run_of g.book p inputs budget; work = cleared work }
   unfolding run_answer run_book
   let_through =
-      let a = j.allows e in
+      let a = j.allows refl in
       let v = procedure_view g p a.known in
       rw (
         g.is,
@@ -200,13 +199,13 @@ module _ {b : List ℕ} (g : BookHere b) {p : ℕ} (inputs : List ℕ) {budget :
   -- Its answer is the outcome's, and its cells are 0 before the others, which are as they were.
   pub run_done : {given : List ℕ} (ys : List ℕ) {a : ℕ} {r : Answer} → take (length inputs) given ≡ inputs → StartedPost b p given budget ys a →
       length ys ≡ length (take 1024 work) → AnsweredPost budget a r →
-      Runs b p inputs budget work r.refusal r.ending r.value r.steps (ys ++ drop 1024 work)
+      Runs b p inputs budget work 0 (ending_of_ran r) (value_of r) r.steps (ys ++ drop 1024 work)
   unfolding run_of cleared
   run_done {given} ys {a} {r} i s l q =
-      let z : length ys ≡ 1024 = l ∙ sym (part_long work j e) in
+      let z : length ys ≡ 1024 = l ∙ sym (part_long work j) in
       told
       (record { refusal = 0; run = run_of g.book p inputs budget; work = cleared work })
       let_through
-      q.refusal
-      (sym q.same ∙ ap (ran budget) (rw (← (j.allows e).counted, i) at (s.begun.ran (opened g))))
+      refl
+      (sym q.same ∙ ap (ran budget) (rw (← (j.allows refl).counted, i) at (s.begun.ran (opened g))))
       (rw z at (ap (λ (l : List ℕ). l ++ drop 1024 work) s.zeros))

@@ -1,7 +1,7 @@
 -- What a call comes to: its arguments gathered, its procedure entered.
 use Rattle.std.proofs.Common.{◌≡◌, ℕ, suc, ◌+◌, ◌-◌, ◌*◌, ◌<◌, ◌≤◌, List, [], ◌∷◌, ◌++◌, length, get_or, take, set, replicate, sym, refl, ap, ◌∙◌, append_assoc, append-nil, add-one, arith, length-set, take-suc-set}
 use mathlib.Core.Option.{some}
-use borrow.Rule.Slice.PartMut.{mid_of, put_mid, mid_len, take_put, same_len_mid}
+use borrow.Rule.Slice.PartMut.{mid_of, mid_len}
 use lib.ListN.{get_elem?}
 use Rattle.meaning.specs.Tree.{Args, Closing, Procedure, Book}
 use Rattle.meaning.specs.Reading.{Scope, arities, entries, entry}
@@ -13,7 +13,7 @@ use Rattle.meaning.proofs.Places.{row_of}
 use Rattle.runner.specs.Outcome.{ending_of, outcome, leaves, outcome_of}
 use Rattle.runner.specs.Opened.{Opened, book_of, in_scope}
 use Rattle.runner.specs.Answer.{answer_of, Yields, Ends, HasLeft, HasResult}
-use Rattle.runner.specs.Frame.{cells, depths, Framed, PreparedPre, PreparedPost}
+use Rattle.runner.specs.Frame.{cells, depths, Framed, PreparedPost}
 use Rattle.runner.specs.Parts.{EvalPre, FormPre, ArgsPre, EnterPre, BodyPre, ClosingPre}
 use Rattle.runner.specs.Parts.{EvalPost, ArgsPost, ClosingPost, EnterPost, BodyPost}
 use Rattle.runner.specs.Jumping.{Jumps, JumpPost}
@@ -21,7 +21,7 @@ use Rattle.runner.proofs.Fall.{fall, fall_bytes, fall_depth}
 use Rattle.runner.proofs.Packing.{has_ended, not_ended}
 use Rattle.runner.proofs.Memo.{ends_expr}
 use Rattle.runner.proofs.Heads.{Called, called}
-use Rattle.runner.proofs.Outcomes.{stop, go, goes, left_made, left_over, said, bind_yield, bind_same, before_one}
+use Rattle.runner.proofs.Outcomes.{stop, go, goes, left_made, left_over, said, bind_yield, bind_same}
 use Rattle.runner.proofs.Exprs.{ready_on, expr_ready, own_jump}
 
 args_moved : (es : Args) (b : List ℕ) (v : Scope) {n m i j k l : ℕ} → n ≡ m → i ≡ j → k ≡ l → ArgsAt es b v m j l → ArgsAt es b v n i k
@@ -118,7 +118,7 @@ module _ {b j₀ : List ℕ} {at₀ count f l₀ : ℕ} {w₀ vs₀ j : List ℕ
             eight = p.eight;
           }
 
-      pub argument_on : {u n next : ℕ} {j₂ : List ℕ} → a < 0x8000000000000000 → HasResult a u → HasLeft a n → JumpPost b at j₂ next →
+      pub argument_on : {u n next : ℕ} {j₂ : List ℕ} → a < 0x2000000000000000 → HasResult a u → HasLeft a n → JumpPost b at j₂ next →
           Gathering b j₀ at₀ count f l₀ w₀ vs₀ j₂ next n (i + 1) w₁ (set vs i u)
       unfolding values left_over_args
       argument_on {u} {n} {next} z s k e =
@@ -166,16 +166,7 @@ runs_found k d p vs l q e = rw (e, runs)
 
 -- A procedure in cells of its own.
 module _ {b j : List ℕ} {p : ℕ} {given : List ℕ} {d l : ℕ} {w : List ℕ} (h : BodyPre b j p given d l w) where
-  pub prepared_pre : PreparedPre b p given w
-  prepared_pre = record { book = h.book; known = h.known; eight = h.eight; room = omega (arith, h.room) }
-
-  pub body_within : 7 + 6 * p ≤ length b
-  body_within = let f = h.book.facts in let k = h.known in omega arith
-
   module _ {w₁ : List ℕ} {n : ℕ} (q : PreparedPost b p given w w₁ n) where
-    pub few_cells : n < 32
-    few_cells = omega (arith, q.few)
-
     module _ {f at : ℕ} (o : at ≡ (entry b p).offset) (a : Framed n d f) where
       framed_as : cells f ≡ (entry b p).parameters + (entry b p).locals
       framed_as = a.cells_are ∙ q.counted
@@ -249,17 +240,6 @@ module _ {b j : List ℕ} {p : ℕ} {given : List ℕ} {f l : ℕ} {w : List ℕ
     pub rest_falls : {t : ℕ} → fall (depths f) l 0 ≡ t → fall (d - 1) l 65536 < t
     rest_falls e = fall_depth _ _ _ _ _ _ e (omega arith) (omega arith) (omega arith)
 
-    pub enter_done : {r : ℕ} {j₁ : List ℕ} (ys : List ℕ) → length ys ≡ length (mid_of n (length w - n) w) → BodyPost b p given (d - 1) l j₁ r →
-        EnterPost b p given f l w (put_mid n (length w - n) w ys) j₁ r
-    enter_done ys y s =
-        record {
-          ran = λ g. rw (← i, ← before_one u) (s.ran g);
-          kept = rw (← o) (take_put n (length w - n) w ys enter_room);
-          long = same_len_mid n (length w - n) w ys y;
-          fell = s.fell;
-          jumps = s.jumps;
-        }
-
 -- A call: the procedure's entry, its arguments, and its answer.
 module _ {b j : List ℕ} {at f l : ℕ} {w : List ℕ} (h : FormPre 0x13 b j at f l w) where
   pub call_fits : at + 1 < length b
@@ -330,7 +310,7 @@ module _ {b j : List ℕ} {at f l : ℕ} {w : List ℕ} (h : FormPre 0x13 b j at
           pub call_falls : {t : ℕ} → fall (depths f) l (length b - at + 2) ≡ t → fall (depths f) m 0 < t
           call_falls e = fall_bytes _ _ _ _ _ e (omega (arith, q.fell, k.is)) (omega arith)
 
-          pub call_done : {r : ℕ} {w₂ j₂ : List ℕ} → a < 0x8000000000000000 → EnterPost b p vs f m w₁ w₂ j₂ r → EvalPost b at f (suc l) w w₂ j₂ r
+          pub call_done : {r : ℕ} {w₂ j₂ : List ℕ} → a < 0x2000000000000000 → EnterPost b p vs f m w₁ w₂ j₂ r → EvalPost b at f (suc l) w w₂ j₂ r
           unfolding value tick
           call_done z s =
               record {

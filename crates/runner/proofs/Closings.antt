@@ -112,7 +112,7 @@ module _ {b j₀ : List ℕ} {at₀ f l₀ : ℕ} {w₀ j : List ℕ} {at l : �
           jumps = q.jumps;
         }
 
-    module _ (z : a < 0x8000000000000000) {place m : ℕ} (i : HasResult a place) (k : HasLeft a m) where
+    module _ (z : a < 0x2000000000000000) {place m : ℕ} (i : HasResult a place) (k : HasLeft a m) where
       place_is : (r : ℕ) (x : ClosingHere b (in_scope b (cells f)) r at₀) → place ≡ (lead_view r x).cmds.next
       place_is r x = i.is ∙ q.stands (p.row r x) (lead_view r x).cmds (not_ended z)
 
@@ -230,7 +230,7 @@ module _ {b j₀ : List ℕ} {at₀ f l₀ : ℕ} {w₀ j : List ℕ} {at l : �
                 | no y ↦ omega (arith, yes_place y p.pre.row p.pre.here, expr_spans e.test, p.there)
               ]
 
-          module _ (z : a < 0x8000000000000000) where
+          module _ (z : a < 0x2000000000000000) where
             pick_yes : (v ≡ 0 → ⊥) → Closing-on b j₀ at₀ f l₀ w₀ j₂ place i w₁
             unfolding finish tick closing_left
             pick_yes y =

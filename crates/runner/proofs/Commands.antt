@@ -120,7 +120,7 @@ module _ {b j : List ℕ} {at f l : ℕ} {w : List ℕ} (h : CmdFormPre 0x01 b j
       pub assign_cell : x < length w₁
       assign_cell = omega (arith, assigned, h.start.ready.room, q.long)
 
-      pub assign_done : {u : ℕ} → a < 0x8000000000000000 → HasResult a u → CmdPost b at f (suc l) w (set w₁ x u) j₁ a
+      pub assign_done : {u : ℕ} → a < 0x2000000000000000 → HasResult a u → CmdPost b at f (suc l) w (set w₁ x u) j₁ a
       unfolding act tick
       assign_done {u} z i =
           record {
@@ -192,7 +192,7 @@ module _ {b j : List ℕ} {at f l : ℕ} {w : List ℕ} (h : CmdFormPre 0x02 b j
           let s = taken_run.0.there in
           fall_bytes _ _ _ _ _ e (omega (arith, k.is, q.fell)) (omega (arith, taken_run.1))
 
-      module _ (z : a < 0x8000000000000000) {w₂ j₃ : List ℕ} {r : ℕ} (c : CmdsPost b start f m w₁ w₂ j₃ r) where
+      module _ (z : a < 0x2000000000000000) {w₂ j₃ : List ℕ} {r : ℕ} (c : CmdsPost b start f m w₁ w₂ j₃ r) where
         -- What the run at that place did, whichever tree stands there.
         run_did : (g : Opened b) {row at₂ : ℕ} (x : RunHere b (in_scope b (cells f)) row at₂) → start ≡ at₂ →
             leaves r (take (cells f) w₂) ≡ acts x.tree (runs (book_of g) (depths f)) (take (cells f) w) (answer_of a).left

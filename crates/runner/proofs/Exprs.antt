@@ -61,7 +61,7 @@ module _ {b j : List ℕ} {at f l : ℕ} {w : List ℕ} (h : EvalPre b j at f l 
         few = h.ready.few;
       }
 
-  pub operand_small : {r : ℕ} → SmallPost b at l w r → r < 0x8000000000000000 → EvalPost b at f l w w j r
+  pub operand_small : {r : ℕ} → SmallPost b at l w r → r < 0x2000000000000000 → EvalPost b at f l w w j r
   operand_small p k = (p.gave k).ran f j (own_jump h h.ready.jumps)
 
   module _ (e : get_or b at 0 ≡ 0x11) where
@@ -116,11 +116,6 @@ module _ {b j : List ℕ} {at f l : ℕ} {w : List ℕ} (h : EvalPre b j at f l 
       let z : EvalPost b at f (suc (l - 1)) w w j r = (p.gave (l - 1) r y).ran f j (own_jump h h.ready.jumps) in
       rw (before_one u) at z
 
--- What was said of the steps left before one was spent.
-pub eval_stepped : {b : List ℕ} {at f l : ℕ} {w w' j' : List ℕ} {r : ℕ} → (l ≡ 0 → ⊥) → EvalPost b at f (suc (l - 1)) w w' j' r →
-    EvalPost b at f l w w' j' r
-eval_stepped u p = rw (before_one u) at p
-
 -- An operation: its left operand first.
 module _ {b j : List ℕ} {at f l : ℕ} {w : List ℕ} (h : FormPre 0x12 b j at f l w) where
   pub left_pre : EvalPre b j (at + 2) f l w
@@ -145,7 +140,7 @@ module _ {b j : List ℕ} {at f l : ℕ} {w : List ℕ} (h : FormPre 0x12 b j at
           jump = own_jump h.start p.jumps;
         }
 
-    pub right_pre : a < 0x8000000000000000 → RightPre b j₁ at f a w₁
+    pub right_pre : a < 0x2000000000000000 → RightPre b j₁ at f a w₁
     right_pre z =
         record {
           form =
@@ -222,10 +217,7 @@ module _ {b j : List ℕ} {at f a : ℕ} {w : List ℕ} (h : RightPre b j at f a
             fell = right_fell;
           }
 
-      pub operate_few : {i : ℕ} → HasLeft c i → i ≤ 1000000
-      operate_few i = omega (arith, i.is, right_fell, h.form.start.ready.few)
-
-      pub right_done : {u v i r : ℕ} → c < 0x8000000000000000 → HasResult a u → HasResult c v → HasLeft c i →
+      pub right_done : {u v i r : ℕ} → c < 0x2000000000000000 → HasResult a u → HasResult c v → HasLeft c i →
           OperatePost (get_or b (at + 1) 0) u v i r → RightPost b at f a w w₁ j₂ r
       unfolding value tick
       right_done {r = r} y s t i o =

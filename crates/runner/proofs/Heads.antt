@@ -10,7 +10,8 @@ use Rattle.book.proofs.Views.Bounds.{expr_spans, cmd_spans}
 use Rattle.runner.specs.Opened.{Opened, in_scope}
 use Rattle.runner.specs.Skipping.{SomeExpr, SomeCmd, SomeRun, SomeClosing, RowPre, RowPost, PartPre, HeadPost}
 use Rattle.runner.specs.declared.skip.Head.{Head}
-use Rattle.runner.proofs.Rows.{one_part, two_parts, no_parts, rows_append, args_row, head_few, spanned_cmd, spanned_run}
+use Rattle.runner.specs.Spanning.{spanned_cmd, spanned_run}
+use Rattle.runner.proofs.Rows.{one_part, two_parts, no_parts, rows_append, args_row, head_few}
 
 -- A called procedure's entry lies within the contents, and its parameters are counted there.
 pub record Called (b : List ℕ) (p : ℕ) : Type 0 where

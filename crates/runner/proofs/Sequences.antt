@@ -116,7 +116,7 @@ module _ {b j₀ : List ℕ} {at₀ f l₀ : ℕ} {w₀ j : List ℕ} {at l : �
             let s = cmd_spans (command_view p.pre.row p.pre.here).head in
             omega (arith, next_is p.pre.row p.pre.here, p.there)
 
-        pub going_on : {m : ℕ} → a < 0x8000000000000000 → HasLeft a m → Going b j₀ at₀ f l₀ w₀ j₂ next m w₁
+        pub going_on : {m : ℕ} → a < 0x2000000000000000 → HasLeft a m → Going b j₀ at₀ f l₀ w₀ j₂ next m w₁
         unfolding acts run_left
         going_on {m} z k =
             let s = cmd_spans (command_view p.pre.row p.pre.here).head in

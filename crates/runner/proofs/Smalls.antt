@@ -1,5 +1,10 @@
 -- Small expressions: their values for their steps.
 use Rattle.std.proofs.Common.{◌≡◌, ℕ, suc, ◌+◌, ◌-◌, ◌*◌, ◌<◌, ◌≤◌, List, length, get_or, take, sym, refl, ◌∙◌, arith, get_or-take}
+use Rattle.std.specs.Prelude.{Result, Ok, Err, IfSome}
+use Rattle.std.specs.Result.{result_ok}
+use Rattle.runner.specs.Step.{packed_of}
+use Rattle.runner.specs.declared.answer.Went.{Went}
+use Rattle.runner.specs.declared.answer.Over.{Over}
 use Rattle.meaning.specs.Running.{yield, bind, tick, value, runs}
 use Rattle.book.proofs.Text.{four_bytes, ExprHere}
 use Rattle.book.proofs.Views.{expr_code, constant_view, variable_view, operation_view}
@@ -78,8 +83,9 @@ module _ {b : List ℕ} {at : ℕ} {w : List ℕ} where
         expr_only (omega arith) (λ n next x. sym (x.ends ∙ (constant_view x.here e).next))
 
   -- Of an answer that has ended nothing is said.
-  pub not_small : {l : ℕ} → SmallPost b at l w 0x8000000000000000
-  not_small = record { gave = λ u. absurd (omega arith) }
+  pub ok_small : {l : ℕ} (r : Result Went Over) → SmallPost b at l w (packed_of r) → IfSome (result_ok r) (λ a. SmallPost b at l w a.packed)
+  ok_small (Ok a) p = p
+  ok_small (Err o) p = tt
 
   pub small_leaf : {l r v : ℕ} → (l ≡ 0 → ⊥) → LeafPost b at w v → Yields v (l - 1) r → SmallPost b at l w r
   small_leaf {l} {r} u p y = record { gave = λ i. rw (before_one u) at (p.gave (l - 1) r y) }

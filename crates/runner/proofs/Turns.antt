@@ -134,7 +134,7 @@ module _ {b j₀ : List ℕ} {at f l₀ : ℕ} {w₀ : List ℕ} {inside : ℕ} 
             jump = own_cmd p.pre.start q.jumps;
           }
 
-      module _ (z : a < 0x8000000000000000) where
+      module _ (z : a < 0x2000000000000000) where
         pub turns_done : {v : ℕ} → HasResult a v → v ≡ 0 → CmdPost b at f l₀ w₀ w₁ j₁ a
         turns_done {v} i y =
             record {
@@ -204,7 +204,7 @@ module _ {b j₀ : List ℕ} {at f l₀ : ℕ} {w₀ : List ℕ} {inside : ℕ} 
               pub turning_less : o < l
               turning_less = omega (arith, r.is, inside_fell)
 
-              pub turning_on : s < 0x8000000000000000 → Turning b j₀ at f l₀ w₀ inside j₂ o w₂
+              pub turning_on : s < 0x2000000000000000 → Turning b j₀ at f l₀ w₀ inside j₂ o w₂
               turning_on n =
                   record {
                     pre = p.pre;

@@ -41,6 +41,3 @@ pub record HasResult (r v : ℕ) : Type 0 where
 
 pub record HasLeft (r l : ℕ) : Type 0 where
   pub is : l ≡ (answer_of r).left
-
-pub record HasEnding (r e : ℕ) : Type 0 where
-  pub is : e ≡ (answer_of r).ending

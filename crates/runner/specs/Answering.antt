@@ -1,5 +1,5 @@
 -- What the parts of the public entry are held to.
-use Rattle.std.specs.Prelude.{◌≡◌, ℕ, ◌<◌, ◌≤◌, List, length, take, replicate, ◌≢◌}
+use Rattle.std.specs.Prelude.{◌≡◌, ℕ, ◌-◌, ◌<◌, ◌≤◌, List, length, take, replicate, ◌≢◌}
 use Rattle.meaning.specs.Limits.{most_calls}
 use Rattle.meaning.specs.Reading.{procedures, entry}
 use Rattle.meaning.specs.Running.{runs}
@@ -7,19 +7,17 @@ use Rattle.meaning.specs.Answers.{ran, run_answer, no_run}
 use Rattle.runner.specs.Outcome.{outcome_of}
 use Rattle.runner.specs.Opened.{Opened, book_of}
 use Rattle.runner.specs.Answer.{answer_of}
-use Rattle.runner.specs.declared.RunAnswer.{RunAnswer}
+use Rattle.runner.specs.Endings.{number, value, ending_of, value_of}
+use Rattle.runner.specs.declared.ran.Ending.{Ending}
+use Rattle.runner.specs.declared.ran.Ran.{Ran}
 
--- Every other field is 0.
-pub record RefusedPost (number : ℕ) (r : RunAnswer) : Type 0 where
-  pub refusal : r.refusal ≡ number
-  pub ending : r.ending ≡ 0
-  pub value : r.value ≡ 0
-  pub steps : r.steps ≡ 0
+-- How a run has ended that is over.
+pub record EndsAs (a : ℕ) (e : Ending) : Type 0 where
+  pub same : (budget : ℕ) → ran budget (outcome_of a) ≡ record { ending = number e; value = value e; steps = budget - (answer_of a).left }
 
 -- The answer is that of the outcome under the budget.
-pub record AnsweredPost (budget : ℕ) (a : ℕ) (r : RunAnswer) : Type 0 where
-  pub refusal : r.refusal ≡ 0
-  pub same : ran budget (outcome_of a) ≡ record { ending = r.ending; value = r.value; steps = r.steps }
+pub record AnsweredPost (budget : ℕ) (a : ℕ) (r : Ran) : Type 0 where
+  pub same : ran budget (outcome_of a) ≡ record { ending = ending_of r; value = value_of r; steps = r.steps }
 
 -- A run may start: a procedure that there is, its eight values, and a budget that an answer holds.
 pub record StartPre (b : List ℕ) (p : ℕ) (given : List ℕ) (budget : ℕ) (w : List ℕ) : Type 0 where

@@ -1,5 +1,5 @@
 -- The memo of jumps: at each place 0, or where the part there ends. A code tells which part it is.
-use Rattle.std.specs.Prelude.{◌≡◌, ℕ, ◌≤◌, List, length, ◌≢◌, slice_index, slice_index_or}
+use Rattle.std.specs.Prelude.{◌≡◌, ℕ, ◌≤◌, List, length, ◌≢◌, slice_index, slice_index_or, slice_set}
 use Rattle.meaning.specs.Reading.{Scope}
 use Rattle.book.proofs.Text.{CmdHere, ClosingHere}
 use Rattle.book.proofs.Views.{branch_view, pick_view}
@@ -39,6 +39,11 @@ pub record JumpPre (P : Scope → ℕ → ℕ → Type 0) (b : List ℕ) (at : �
 pub record JumpPost (b : List ℕ) (at : ℕ) (j : List ℕ) (r : ℕ) : Type 0 where
   pub ends : EndsAt b at r
   pub jumps : Jumps b j
+
+-- A memo's entry that is there is the answer; else the answer is one of Q, and stands there afterwards.
+pub record Noted (Q : ℕ → Type 0) (j : List ℕ) (at : ℕ) (j' : List ℕ) (r : ℕ) : Type 0 where
+  pub known : (slice_index j at ≢ 0) → (r ≡ slice_index j at) × (j' ≡ j)
+  pub found : slice_index j at ≡ 0 → Q r × (j' ≡ slice_set j at r)
 
 -- The command here ends at r.
 pub record CmdEndPost (b : List ℕ) (at : ℕ) (j : List ℕ) (r : ℕ) : Type 0 where

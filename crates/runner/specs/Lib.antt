@@ -1,10 +1,13 @@
 pub mod Answer
+pub mod Step
 pub mod Outcome
 pub mod Operating
 pub mod Opened
 pub mod Frame
 pub mod Skipping
+pub mod Spanning
 pub mod Jumping
 pub mod Parts
 pub mod Smallness
+pub mod Endings
 pub mod Answering

@@ -2,7 +2,8 @@
 use Rattle.std.specs.Prelude.{ℕ, ◌<◌, List}
 use Rattle.meaning.specs.Tree.{Book}
 use Rattle.meaning.specs.Reading.{Scope, entries, arities, procedures}
-use Rattle.book.proofs.Readable.{BookHere, BookFacts, ProcedureView}
+use Rattle.book.specs.Here.{BookHere}
+use Rattle.book.proofs.Readable.{BookFacts, ProcedureView}
 
 pub record Opened (b : List ℕ) : Type 0 where
   pub here : BookHere b

@@ -36,7 +36,7 @@ pub record FormPre (k : ℕ) (b j : List ℕ) (at f l : ℕ) (w : List ℕ) : Ty
 -- An operation whose left operand came to the answer a.
 pub record RightPre (b j : List ℕ) (at f a : ℕ) (w : List ℕ) : Type 0 where
   pub form : FormPre 0x12 b j at f (answer_of a).left w
-  pub goes : a < 0x8000000000000000
+  pub goes : a < 0x2000000000000000
   pub jump : JumpPre (SomeExpr b) b (at + 2) j
 
 -- `vs` is where the values of `count` arguments go.

@@ -46,6 +46,10 @@ pub record PartPre (P : Scope → ℕ → ℕ → Type 0) (b : List ℕ) (at : �
   pub next : ℕ
   pub part : P (in_scope b variables) at next
 
+-- The place after the part.
+pub record PartPost (P : Scope → ℕ → ℕ → Type 0) (b : List ℕ) (at r : ℕ) : Type 0 where
+  pub past : (n next : ℕ) → P (in_scope b n) at next → r ≡ next
+
 -- A part is its head, and then a row of parts up to its end.
 pub record HeadPost (P Q : Scope → ℕ → ℕ → Type 0) (b : List ℕ) (at : ℕ) (r : Head) : Type 0 where
   pub on : at < r.next

@@ -38,4 +38,4 @@ pub record LeafPost (b : List ℕ) (at : ℕ) (w : List ℕ) (v : ℕ) : Type 0 
 
 -- The answer, where it has not ended.
 pub record SmallPost (b : List ℕ) (at l : ℕ) (w : List ℕ) (r : ℕ) : Type 0 where
-  pub gave : r < 0x8000000000000000 → Given b at l w r
+  pub gave : r < 0x2000000000000000 → Given b at l w r

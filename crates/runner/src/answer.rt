@@ -1,63 +1,89 @@
-// What a part of the run comes to, in one number, so that it travels in a register: the value in the low 32 bits, the
-// steps left in the next 29; and where the highest bit is set the run has ended, as the highest three bits say.
+// What a part of the run comes to: it goes on, with a value and the steps left, or the run is over. Both are one number, so
+// that an answer travels in two registers, where one of more fields goes through memory: the value or 0 in the low 32 bits,
+// the steps left in the next 29, and in the highest three 0, or how the run has ended.
 ghost use Rattle.std.specs.Prelude.{◌<◌, ◌≤◌};
-ghost use Rattle.runner.specs.Answer.{Yields, Ends, HasLeft, HasResult, HasEnding};
+ghost use Rattle.meaning.specs.Limits.{most_steps};
+ghost use Rattle.runner.specs.Answer.{Yields, Ends, HasLeft, HasResult};
+ghost use Rattle.runner.specs.Answering.{EndsAs};
 
-// Answers from here on have ended.
-pub const ENDED: u64 = 0x8000_0000_0000_0000;
+use crate::ran::Ending;
 
-// How a run has ended; each is 2 above document 01's number of the ending.
-pub const OUT_OF_STEPS: u64 = 4;
+pub type Answer = Result<Went, Over>;
 
-pub const TOO_DEEP: u64 = 5;
+// The highest three bits of an answer, where the run has ended.
+const OUT_OF_STEPS: u64 = 4;
 
-// A value and the steps left.
-pub fn yields(value: u32, left: u32) -> u64
-    requires { left ≤ 1000000 }
-    ensures { Yields value left result }
-{
-    (value as u64) + (left as u64) * 0x1_0000_0000
+const TOO_DEEP: u64 = 5;
+
+// The run goes on, with a value, or the place after commands.
+#[derive(Clone, Copy)]
+pub struct Went {
+    packed: u64,
+    ghost goes: { packed < 0x2000000000000000 },
 }
 
-// An ending and the steps left.
-pub fn ends(ending: u64, left: u32) -> u64
-    requires { (4 ≤ ending) × (ending < 8) × (left ≤ 1000000) }
-    ensures { Ends ending left result }
-{
-    ending * 0x2000_0000_0000_0000 + (left as u64) * 0x1_0000_0000
-}
-
-pub fn result_of(answer: u64) -> u32
-    ensures { HasResult answer result }
-{
-    (answer % 0x1_0000_0000) as u32
-}
-
-pub fn left_of(answer: u64) -> u32
-    ensures { HasLeft answer result }
-{
-    (answer / 0x1_0000_0000 % 0x2000_0000) as u32
-}
-
-pub fn ending_of(answer: u64) -> u8
-    ensures { HasEnding answer result }
-{
-    if answer < ENDED {
-        return 0;
+impl Went {
+    pub fn new(value: u32, left: u32) -> Went
+        requires { left ≤ most_steps }
+        ensures { Yields value left result.packed }
+    {
+        Went {
+            packed: u64::from(value) + u64::from(left) * 0x1_0000_0000,
+        }
     }
-    (answer / 0x2000_0000_0000_0000) as u8
+
+    pub fn value(self) -> u32
+        ensures { HasResult self.packed result }
+    {
+        (self.packed % 0x1_0000_0000) as u32
+    }
+
+    pub fn left(self) -> u32
+        ensures { HasLeft self.packed result }
+    {
+        (self.packed / 0x1_0000_0000) as u32
+    }
 }
 
-// The same for the place after commands.
-pub fn stands(place: usize, left: u32) -> u64
-    requires { (place < 0x1_0000_0000) × (left ≤ 1000000) }
-    ensures { Yields place left result }
-{
-    (place as u64) + (left as u64) * 0x1_0000_0000
+// The run is over, without a value.
+#[derive(Clone, Copy)]
+pub struct Over {
+    packed: u64,
+    ghost ended: { 0x8000000000000000 ≤ packed },
 }
 
-pub fn place_of(answer: u64) -> usize
-    ensures { HasResult answer result }
-{
-    (answer % 0x1_0000_0000) as usize
+impl Over {
+    // A step that would pass the budget is not spent.
+    pub fn out_of_steps() -> Over
+        ensures { Ends 4 0 result.packed }
+    {
+        Over {
+            packed: OUT_OF_STEPS * 0x2000_0000_0000_0000,
+        }
+    }
+
+    pub fn too_deep(left: u32) -> Over
+        requires { left ≤ most_steps }
+        ensures { Ends 5 left result.packed }
+    {
+        Over {
+            packed: TOO_DEEP * 0x2000_0000_0000_0000 + u64::from(left) * 0x1_0000_0000,
+        }
+    }
+
+    pub fn left(self) -> u32
+        ensures { HasLeft self.packed result }
+    {
+        (self.packed / 0x1_0000_0000 % 0x2000_0000) as u32
+    }
+
+    pub fn ending(self) -> Ending
+        ensures { EndsAs self.packed result }
+    {
+        if self.packed / 0x2000_0000_0000_0000 == OUT_OF_STEPS {
+            Ending::OutOfSteps
+        } else {
+            Ending::TooDeep
+        }
+    }
 }

@@ -1,73 +1,68 @@
-// The frame of a call (how many cells are its variables, how many call depths are left, in one number), its cells at the
-// start, and the lent cells cleared at the end.
-ghost use Rattle.std.specs.Prelude.{◌≡◌, ◌+◌, ◌<◌, ◌≤◌, ◌++◌, length, take, replicate};
+// The frame of a call: how many cells are its variables, and how many call depths are left. Its cells at the start.
+ghost use Rattle.std.specs.Prelude.{◌≡◌, ℕ, ◌+◌, ◌<◌, ◌≤◌, ◌++◌, length, take, replicate};
+ghost use Rattle.meaning.specs.Limits.{most_calls, most_parameters};
 ghost use Rattle.runner.specs.Frame.{cells, depths, Framed, PreparedPre, PreparedPost};
 
-use crate::contents::{locals, parameters};
+use book::entry::{locals, parameters};
+use book::limits::{MOST_LOCALS, MOST_PARAMETERS};
+use std::marker::Model;
 
-pub fn framed(n: usize, d: u32) -> u32
-    requires { (n < 32) × (d ≤ 64) }
-    ensures { Framed n d result }
-{
-    (n as u32) + 32 * d
+// One number, which travels in a register: the cells in the low five bits, the depths above them.
+#[derive(Clone, Copy)]
+pub struct Frame {
+    packed: u32,
 }
 
-pub fn cells_of(frame: u32) -> usize
-    ensures { result ≡ cells frame }
-{
-    (frame % 32) as usize
+// A clause sees a frame as its number.
+impl Model for Frame {
+    ghost Value = { ℕ };
+
+    ghost view = { λ f. f.packed };
+
+    ghost inverse = { λ n. record { packed = n } };
 }
 
-pub fn depths_of(frame: u32) -> u32
-    ensures { result ≡ depths frame }
-{
-    frame / 32
-}
+impl Frame {
+    pub fn new(cells: usize, depths: u32) -> Frame
+        requires { (cells < 32) × (depths ≤ most_calls) }
+        ensures { Framed cells depths result }
+    {
+        Frame {
+            packed: (cells as u32) + 32 * depths,
+        }
+    }
 
-// Parameters start as the values given, locals as 0.
-fn set_up(given: &[u32; 8], parameters: usize, locals: usize, work: &mut [u32])
-    requires { (length given.now ≡ 8) × (parameters ≤ 8) × (parameters + locals ≤ length work.old) }
-    ensures { take (parameters + locals) work.new ≡ take parameters given.now ++ replicate locals 0 }
-{
-    let n = parameters + locals;
-    let mut i = 0;
-    while i < n {
-        work[i] = if i < parameters { given[i] } else { 0 };
-        i += 1;
+    pub fn cells(self) -> usize
+        ensures { result ≡ cells self }
+    {
+        (self.packed % 32) as usize
+    }
+
+    pub fn depths(self) -> u32
+        ensures { result ≡ depths self }
+    {
+        self.packed / 32
     }
 }
 
-// The cells of procedure `p` on the values given: how many they are.
-pub fn prepared(book: &[u8], p: usize, given: &[u32; 8], work: &mut [u32]) -> usize
+// The cells of procedure `p` on the values given: parameters start as the values, locals as 0. How many they are. All eight of
+// each are written, whatever their number, which is quicker than to count, and the cells behind them are free.
+pub fn prepared(book: &[u8], p: usize, given: &[u32; MOST_PARAMETERS], work: &mut [u32]) -> usize
     requires { PreparedPre book.now p given.now work.old }
     ensures { PreparedPost book.now p given.now work.old work.new result }
 {
     let k = parameters(book, p);
-    let l = locals(book, p);
-    set_up(given, k, l, work);
-    k + l
-}
-
-pub fn clear(work: &mut [u32])
-    ensures { work.new ≡ replicate (length work.new) 0 }
-{
-    let mut i = 0;
-    while i < work.len() {
-        work[i] = 0;
-        i += 1;
-    }
+    work[..MOST_PARAMETERS].copy_from_slice(given);
+    work[k..k + MOST_LOCALS].fill(0);
+    k + locals(book, p)
 }
 
 // The inputs, gathered as a call's values are.
-pub fn gather(inputs: &[u32]) -> [u32; 8]
-    requires { length inputs.now ≤ 8 }
+pub fn gather(inputs: &[u32]) -> [u32; MOST_PARAMETERS]
+    requires { length inputs.now ≤ most_parameters }
     ensures { take (length inputs.now) result ≡ inputs.now }
 {
-    let mut given = [0u32; 8];
-    let mut i = 0;
-    while i < inputs.len() {
-        given[i] = inputs[i];
-        i += 1;
-    }
+    let mut given = [0u32; MOST_PARAMETERS];
+    given[..inputs.len()].copy_from_slice(inputs);
     given
 }

@@ -1,14 +1,25 @@
 // Where parts end: looked up in a memo, or found once and kept there.
-ghost use Rattle.std.specs.Prelude.{◌≡◌};
-ghost use Rattle.runner.specs.Skipping.{SomeExpr, SomeRun, SomeCmd};
-ghost use Rattle.runner.specs.Jumping.{SomeIf, SomePick, JumpPre, JumpPost, CmdEndPost, TakenPost, PickedPost};
+ghost use Rattle.std.specs.Prelude.{ℕ, ◌<◌, length};
+ghost use Rattle.runner.specs.Skipping.{SomeExpr, SomeRun, SomeCmd, PartPre, PartPost};
+ghost use Rattle.runner.specs.Jumping.{SomeIf, SomePick, JumpPre, JumpPost, Noted, CmdEndPost, TakenPost, PickedPost};
 
-use crate::skip::{closings, exprs, runs};
+use crate::skip::{Closing, Expr, Run, row};
 
-fn place(jump: u16) -> usize
-    ensures { result ≡ jump }
+// The place that a part leads to, looked up in the memo, or found and kept there. An entry of 0 is none yet; an Option would
+// take twice the room of 16 bits (kept: fixed memory, on the stack).
+fn noted<F: FnOnce() -> usize>(jumps: &mut [u16], at: usize, find: F) -> usize
+    requires there { at < length jumps.old }
+    requires can { F.pre find }
+    requires small { (r : ℕ) → F.post find r → r < 65536 }
+    ensures { Noted (F.post find) jumps.old at jumps.new result }
 {
-    jump as usize
+    let known = usize::from(jumps[at]);
+    if known != 0 {
+        return known;
+    }
+    let found = find();
+    jumps[at] = found as u16;
+    found
 }
 
 // The expression at `at`; a leaf's end is known.
@@ -16,20 +27,11 @@ pub fn expr_end(book: &[u8], jumps: &mut [u16], at: usize) -> usize
     requires { JumpPre (SomeExpr book.now) book.now at jumps.old }
     ensures { JumpPost book.now at jumps.new result }
 {
-    let k = book[at];
-    if k == 0x11 {
-        return at + 2;
+    match book[at] {
+        0x11 => at + 2,
+        0x10 => at + 5,
+        _ => noted(jumps, at, || row::<Expr>(book, at, 1)),
     }
-    if k == 0x10 {
-        return at + 5;
-    }
-    let known = place(jumps[at]);
-    if known != 0 {
-        return known;
-    }
-    let end = exprs(book, at, 1);
-    jumps[at] = end as u16;
-    end
 }
 
 // The run at `at`.
@@ -37,28 +39,23 @@ pub fn run_end(book: &[u8], jumps: &mut [u16], at: usize) -> usize
     requires { JumpPre (SomeRun book.now) book.now at jumps.old }
     ensures { JumpPost book.now at jumps.new result }
 {
-    let known = place(jumps[at]);
-    if known != 0 {
-        return known;
-    }
-    let end = runs(book, at, 1);
-    jumps[at] = end as u16;
-    end
+    noted(jumps, at, || row::<Run>(book, at, 1))
 }
 
-// The second sequence of the closing if at `at`.
+// The second sequence of the closing if at `at`, behind its test and its first.
+fn past_first(book: &[u8], at: usize) -> usize
+    requires { PartPre (SomePick book.now) book.now at }
+    ensures { PartPost (SomePick book.now) book.now at result }
+{
+    let first = row::<Expr>(book, at + 1, 1);
+    row::<Closing>(book, first, 1)
+}
+
 pub fn second(book: &[u8], jumps: &mut [u16], at: usize) -> usize
     requires { JumpPre (SomePick book.now) book.now at jumps.old }
     ensures { JumpPost book.now at jumps.new result }
 {
-    let known = place(jumps[at]);
-    if known != 0 {
-        return known;
-    }
-    let first = exprs(book, at + 1, 1);
-    let end = closings(book, first, 1);
-    jumps[at] = end as u16;
-    end
+    noted(jumps, at, || past_first(book, at))
 }
 
 // The command at `at`.

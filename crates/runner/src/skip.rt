@@ -1,8 +1,11 @@
-// Parts that the run passes over: loops over their bytes, with a count of the parts still open.
+// Parts that the run passes over: a loop over their bytes, with a count of the parts still open.
+ghost use Rattle.std.specs.Prelude.{ℕ, List};
+ghost use Rattle.meaning.specs.Reading.{Scope};
 ghost use Rattle.runner.specs.Skipping.{SomeExpr, SomeCmd, SomeRun, SomeClosing, RowPre, RowPost, PartPre, HeadPost};
+ghost use Rattle.runner.specs.Spanning.{Spanned, spanned_expr, spanned_run, spanned_closing};
 
-use crate::contents::parameters;
 use book::bytes::number;
+use book::entry::parameters;
 
 // Where a part's head ends, and how many parts follow inside it.
 #[derive(Clone, Copy)]
@@ -11,50 +14,71 @@ pub struct Head {
     pub more: usize,
 }
 
-fn expr_head(book: &[u8], at: usize) -> Head
-    requires { PartPre (SomeExpr book.now) book.now at }
-    ensures { HeadPost (SomeExpr book.now) (SomeExpr book.now) book.now at result }
-{
-    let k = book[at];
-    if k == 0x10 {
-        return Head {
-            next: at + 5,
-            more: 0,
-        };
-    }
-    if k == 0x11 {
-        return Head {
-            next: at + 2,
-            more: 0,
-        };
-    }
-    if k == 0x12 {
-        return Head {
-            next: at + 2,
-            more: 2,
-        };
-    }
-    let p = number(book[at + 1]);
-    Head {
-        next: at + 2,
-        more: parameters(book, p),
-    }
+// A kind of part whose inner parts, after its head, are of the same kind.
+pub trait Part {
+    // Such a part of this book, over these variables, from a place to a place.
+    ghost part: { List ℕ → Scope → ℕ → ℕ → Type 0 };
+
+    fn head(book: &[u8], at: usize) -> Head
+        requires { PartPre (part book.now) book.now at }
+        ensures { HeadPost (part book.now) (part book.now) book.now at result };
+
+    // It ends after it begins, and within the book.
+    ghost spanned: { (b : List ℕ) → Spanned b (part b) };
 }
 
-pub fn exprs(book: &[u8], at: usize, count: usize) -> usize
-    requires { RowPre (SomeExpr book.now) book.now at count }
-    ensures { RowPost (SomeExpr book.now) book.now at count result }
+// The place after `count` parts that stand in a row.
+pub fn row<P: Part>(book: &[u8], at: usize, count: usize) -> usize
+    requires { RowPre (P.part book.now) book.now at count }
+    ensures { RowPost (P.part book.now) book.now at count result }
 {
     let mut at = at;
     let mut count = count;
     while 0 < count {
-        let h = expr_head(book, at);
+        let h = P::head(book, at);
         at = h.next;
         count = count - 1 + h.more;
     }
     at
 }
 
+// An expression.
+pub struct Expr;
+
+impl Part for Expr {
+    ghost part = { SomeExpr };
+
+    ghost spanned = { spanned_expr };
+
+    fn head(book: &[u8], at: usize) -> Head {
+        let k = book[at];
+        if k == 0x10 {
+            return Head {
+                next: at + 5,
+                more: 0,
+            };
+        }
+        if k == 0x11 {
+            return Head {
+                next: at + 2,
+                more: 0,
+            };
+        }
+        if k == 0x12 {
+            return Head {
+                next: at + 2,
+                more: 2,
+            };
+        }
+        let p = number(book[at + 1]);
+        Head {
+            next: at + 2,
+            more: parameters(book, p),
+        }
+    }
+}
+
+// Of a command, whose inner parts are runs.
 fn command_head(book: &[u8], at: usize) -> Head
     requires { PartPre (SomeCmd book.now) book.now at }
     ensures { HeadPost (SomeCmd book.now) (SomeRun book.now) book.now at result }
@@ -62,79 +86,61 @@ fn command_head(book: &[u8], at: usize) -> Head
     let k = book[at];
     if k == 0x01 {
         return Head {
-            next: exprs(book, at + 2, 1),
+            next: row::<Expr>(book, at + 2, 1),
             more: 0,
         };
     }
-    let next = exprs(book, at + 1, 1);
+    let next = row::<Expr>(book, at + 1, 1);
     if k == 0x02 {
         return Head { next, more: 2 };
     }
     Head { next, more: 1 }
 }
 
-fn run_head(book: &[u8], at: usize) -> Head
-    requires { PartPre (SomeRun book.now) book.now at }
-    ensures { HeadPost (SomeRun book.now) (SomeRun book.now) book.now at result }
-{
-    if book[at] == 0x00 {
-        return Head {
-            next: at + 1,
-            more: 0,
-        };
-    }
-    let h = command_head(book, at);
-    Head {
-        next: h.next,
-        more: h.more + 1,
-    }
-}
+// A run of commands, which a 00 ends; after a command it goes on with one more run open.
+pub struct Run;
 
-pub fn runs(book: &[u8], at: usize, count: usize) -> usize
-    requires { RowPre (SomeRun book.now) book.now at count }
-    ensures { RowPost (SomeRun book.now) book.now at count result }
-{
-    let mut at = at;
-    let mut count = count;
-    while 0 < count {
-        let h = run_head(book, at);
-        at = h.next;
-        count = count - 1 + h.more;
-    }
-    at
-}
+impl Part for Run {
+    ghost part = { SomeRun };
 
-fn closing_head(book: &[u8], at: usize) -> Head
-    requires { PartPre (SomeClosing book.now) book.now at }
-    ensures { HeadPost (SomeClosing book.now) (SomeClosing book.now) book.now at result }
-{
-    let k = book[at];
-    if k < 0x04 {
+    ghost spanned = { spanned_run };
+
+    fn head(book: &[u8], at: usize) -> Head {
+        if book[at] == 0x00 {
+            return Head {
+                next: at + 1,
+                more: 0,
+            };
+        }
         let h = command_head(book, at);
-        let next = h.next;
-        let more = h.more;
-        return Head {
-            next: runs(book, next, more),
-            more: 1,
-        };
+        Head {
+            next: h.next,
+            more: h.more + 1,
+        }
     }
-    let next = exprs(book, at + 1, 1);
-    if k == 0x04 {
-        return Head { next, more: 0 };
-    }
-    Head { next, more: 2 }
 }
 
-pub fn closings(book: &[u8], at: usize, count: usize) -> usize
-    requires { RowPre (SomeClosing book.now) book.now at count }
-    ensures { RowPost (SomeClosing book.now) book.now at count result }
-{
-    let mut at = at;
-    let mut count = count;
-    while 0 < count {
-        let h = closing_head(book, at);
-        at = h.next;
-        count = count - 1 + h.more;
+// A closing sequence; a command is passed over whole.
+pub struct Closing;
+
+impl Part for Closing {
+    ghost part = { SomeClosing };
+
+    ghost spanned = { spanned_closing };
+
+    fn head(book: &[u8], at: usize) -> Head {
+        let k = book[at];
+        if k < 0x04 {
+            let h = command_head(book, at);
+            return Head {
+                next: row::<Run>(book, h.next, h.more),
+                more: 1,
+            };
+        }
+        let next = row::<Expr>(book, at + 1, 1);
+        if k == 0x04 {
+            return Head { next, more: 0 };
+        }
+        Head { next, more: 2 }
     }
-    at
 }

@@ -1,9 +1,9 @@
 // Small expressions, evaluated in place: a leaf, or an operation on two leaves.
-ghost use Rattle.std.specs.Prelude.{◌≡◌};
+ghost use Rattle.std.specs.Prelude.{IfSome};
 ghost use Rattle.runner.specs.Jumping.{EndsAt};
 ghost use Rattle.runner.specs.Smallness.{LeafPre, LeafPost, SmallPre, BothPre, SmallPost};
 
-use crate::answer::{ENDED, yields};
+use crate::answer::Went;
 use crate::operate::operate;
 use book::bytes::{constant, number};
 
@@ -26,39 +26,39 @@ fn leaf_end(book: &[u8], at: usize, work: &[u32]) -> usize
 }
 
 // An operation.
-fn both(book: &[u8], at: usize, left: u32, work: &[u32]) -> u64
+fn both(book: &[u8], at: usize, left: u32, work: &[u32]) -> Option<Went>
     requires { BothPre book.now at left work.now }
-    ensures { SmallPost book.now at left work.now result }
+    ensures { IfSome result (λ a. SmallPost book.now at left work.now a.packed) }
 {
     if left < 3 {
-        return ENDED;
+        return None;
     }
     if 0x11 < book[at + 2] {
-        return ENDED;
+        return None;
     }
     let mid = leaf_end(book, at + 2, work);
     if 0x11 < book[mid] {
-        return ENDED;
+        return None;
     }
     let a = leaf_value(book, at + 2, work);
     let b = leaf_value(book, mid, work);
-    operate(book[at + 1], a, b, left - 3)
+    operate(book[at + 1], a, b, left - 3).ok()
 }
 
-// The expression at `at`, where it is small and `left` steps are enough; else an answer that has ended, which says nothing.
-pub fn small(book: &[u8], at: usize, left: u32, work: &[u32]) -> u64
+// The expression at `at`, where it is small and `left` steps are enough.
+pub fn small(book: &[u8], at: usize, left: u32, work: &[u32]) -> Option<Went>
     requires { SmallPre book.now at left work.now }
-    ensures { SmallPost book.now at left work.now result }
+    ensures { IfSome result (λ a. SmallPost book.now at left work.now a.packed) }
 {
     if left == 0 {
-        return ENDED;
+        return None;
     }
     let k = book[at];
     if k < 0x12 {
-        return yields(leaf_value(book, at, work), left - 1);
+        return Some(Went::new(leaf_value(book, at, work), left - 1));
     }
     if k == 0x12 {
         return both(book, at, left, work);
     }
-    ENDED
+    None
 }

@@ -3,389 +3,266 @@
 // were, 2 anything else.
 #![tactic(auto)]
 
-use std::io;
+ghost use Rattle.std.specs.Prelude.{◌≤◌};
+ghost use Rattle.running.specs.declared.TheConstants.{CELLS};
 
-// Each cell is 7 before the run.
-fn cells(work: &[u32]) -> u64 {
-    let mut kept = true;
-    let mut cleared = true;
-    let mut i = 0;
-    while i < work.len() {
-        let x = work[i];
-        if x != 7 {
-            kept = false;
+use refusals::number_of;
+use runner::limits::{LEAST_CELLS, MOST_STEPS};
+use runner::{Ran, run};
+use std::fmt::Display;
+use std::{fmt, io};
+
+// One cell less than a run asks.
+const TOO_FEW: usize = LEAST_CELLS - 1;
+
+// A few more, which a run leaves as they were.
+const CELLS: usize = LEAST_CELLS + 6;
+
+// What a run has left of the cells, each of which was 7.
+#[derive(Clone, Copy)]
+enum Left {
+    Kept,
+    Cleared,
+    Other,
+}
+
+impl Left {
+    fn of(work: &[u32]) -> Left {
+        let (first, others) = work.split_at(work.len().min(LEAST_CELLS));
+        if work.iter().all(|&cell| cell == 7) {
+            Left::Kept
+        } else if first.iter().all(|&cell| cell == 0) && others.iter().all(|&cell| cell == 7) {
+            Left::Cleared
+        } else {
+            Left::Other
         }
-        if i < 1024 {
-            if x != 0 {
-                cleared = false;
-            }
-        } else if x != 7 {
-            return 2;
-        }
-        i += 1;
-    }
-    if kept {
-        0
-    } else if cleared {
-        1
-    } else {
-        2
     }
 }
 
-fn shown(rt: &impl Print, name: &[u8], a: runner::RunAnswer, after: u64) -> io::Result<()> {
-    rt.write_all(name)?;
-    println!(rt;
-        ": {} {} {} {} {after}",
-        a.refusal, a.ending, a.value, a.steps
-    )
+impl Display for Left {
+    fn fmt<W: fmt::Write>(&self, f: &mut fmt::Formatter<W>) -> fmt::Result {
+        f.write_str(match self {
+            Left::Kept => "0",
+            Left::Cleared => "1",
+            Left::Other => "2",
+        })
+    }
 }
 
-fn shown_in(
+// The rest of a line, behind the name: the run's answer with so many cells.
+fn answer<const N: usize>(
     rt: &impl Print,
-    name: &[u8],
     book: &[u8],
     procedure: usize,
     inputs: &[u32],
     budget: u64,
-    work: &mut [u32],
-) -> io::Result<()> {
-    let a = runner::run(book, procedure, inputs, budget, work);
-    shown(rt, name, a, cells(work))
+) -> io::Result<()>
+    requires { N ≤ CELLS }
+{
+    let mut work = [7u32; N];
+    let answer = run(book, procedure, inputs, budget, &mut work);
+    print!(rt; ": {} ", number_of(&answer))?;
+    match answer {
+        Ok(Ran { ending, steps }) => print!(rt; "{} {} {steps}", ending.number(), ending.value())?,
+        Err(_) => print!(rt; "0 0 0")?,
+    }
+    println!(rt; " {}", Left::of(&work))
+}
+
+fn show_in<const N: usize>(
+    rt: &impl Print,
+    name: &str,
+    book: &[u8],
+    procedure: usize,
+    inputs: &[u32],
+    budget: u64,
+) -> io::Result<()>
+    requires { N ≤ CELLS }
+{
+    print!(rt; "{name}")?;
+    answer::<N>(rt, book, procedure, inputs, budget)
 }
 
 fn show(
     rt: &impl Print,
-    name: &[u8],
+    name: &str,
     book: &[u8],
     procedure: usize,
     inputs: &[u32],
     budget: u64,
 ) -> io::Result<()> {
-    let mut work = [7u32; 1030];
-    shown_in(rt, name, book, procedure, inputs, budget, &mut work)
-}
-
-// With just the cells that are asked for, and with one less.
-fn show_1024(
-    rt: &impl Print,
-    name: &[u8],
-    book: &[u8],
-    procedure: usize,
-    inputs: &[u32],
-    budget: u64,
-) -> io::Result<()> {
-    let mut work = [7u32; 1024];
-    shown_in(rt, name, book, procedure, inputs, budget, &mut work)
-}
-
-fn show_1023(
-    rt: &impl Print,
-    name: &[u8],
-    book: &[u8],
-    procedure: usize,
-    inputs: &[u32],
-    budget: u64,
-) -> io::Result<()> {
-    let mut work = [7u32; 1023];
-    shown_in(rt, name, book, procedure, inputs, budget, &mut work)
+    show_in::<CELLS>(rt, name, book, procedure, inputs, budget)
 }
 
 // A: returns its parameter.
 fn book_a(rt: &impl Print) -> io::Result<()> {
     let book = b"\x01\x07\x00\x03\x00\x01\x00\x04\x11\x00";
-    show(rt, b"A 9", book, 0, &[9u32], 1000000)?;
-    show(rt, b"A 9, exactly enough", book, 0, &[9u32], 2)?;
-    show(rt, b"A 9, one short", book, 0, &[9u32], 1)?;
-    show(rt, b"A 9, budget 0", book, 0, &[9u32], 0)
+    show(rt, "A 9", book, 0, &[9], MOST_STEPS)?;
+    show(rt, "A 9, exactly enough", book, 0, &[9], 2)?;
+    show(rt, "A 9, one short", book, 0, &[9], 1)?;
+    show(rt, "A 9, budget 0", book, 0, &[9], 0)
 }
 
 // B: calls itself for ever.
 fn book_b(rt: &impl Print) -> io::Result<()> {
     let book = b"\x01\x07\x00\x05\x00\x01\x00\x04\x13\x00\x11\x00";
-    show(rt, b"B 1, budget 192", book, 0, &[1u32], 192)?;
-    show(rt, b"B 1, budget 191", book, 0, &[1u32], 191)?;
-    show(rt, b"B 1, budget 193", book, 0, &[1u32], 193)?;
-    show(rt, b"B 1, the greatest budget", book, 0, &[1u32], 1000000)?;
-    show(rt, b"B 1, budget 0", book, 0, &[1u32], 0)
+    show(rt, "B 1, budget 192", book, 0, &[1], 192)?;
+    show(rt, "B 1, budget 191", book, 0, &[1], 191)?;
+    show(rt, "B 1, budget 193", book, 0, &[1], 193)?;
+    show(rt, "B 1, the greatest budget", book, 0, &[1], MOST_STEPS)?;
+    show(rt, "B 1, budget 0", book, 0, &[1], 0)
 }
 
 // C: a local set in a branch.
 fn book_c(rt: &impl Print) -> io::Result<()> {
     let book =
         b"\x01\x07\x00\x0f\x00\x01\x01\x02\x11\x00\x01\x01\x10\x01\x00\x00\x00\x00\x00\x04\x11\x01";
-    show(rt, b"C 0", book, 0, &[0u32], 1000000)?;
-    show(rt, b"C 5", book, 0, &[5u32], 1000000)?;
-    show(rt, b"C 0, exactly enough", book, 0, &[0u32], 4)?;
-    show(rt, b"C 0, one short", book, 0, &[0u32], 3)?;
-    show(rt, b"C 5, exactly enough", book, 0, &[5u32], 6)?;
-    show(rt, b"C 5, one short", book, 0, &[5u32], 5)
+    show(rt, "C 0", book, 0, &[0], MOST_STEPS)?;
+    show(rt, "C 5", book, 0, &[5], MOST_STEPS)?;
+    show(rt, "C 0, exactly enough", book, 0, &[0], 4)?;
+    show(rt, "C 0, one short", book, 0, &[0], 3)?;
+    show(rt, "C 5, exactly enough", book, 0, &[5], 6)?;
+    show(rt, "C 5, one short", book, 0, &[5], 5)
 }
 
 // D: a flow through a second turn.
 fn book_d(rt: &impl Print) -> io::Result<()> {
     let book =
         b"\x01\x07\x00\x1a\x00\x03\x01\x03\x11\x00\x01\x03\x11\x01\x01\x01\x11\x02\x01\x00\x12\x01\x11\x00\x10\x01\x00\x00\x00\x00\x04\x11\x03";
-    show(rt, b"D 2 5 9", book, 0, &[2u32, 5, 9], 1000000)?;
-    show(rt, b"D 1 5 9", book, 0, &[1u32, 5, 9], 1000000)?;
-    show(rt, b"D 0 5 9", book, 0, &[0u32, 5, 9], 1000000)?;
-    show(rt, b"D 2 5 9, exactly enough", book, 0, &[2u32, 5, 9], 24)?;
-    show(rt, b"D 2 5 9, one short", book, 0, &[2u32, 5, 9], 23)?;
-    show(rt, b"D 1 5 9, one short", book, 0, &[1u32, 5, 9], 13)?;
-    show(rt, b"D 0 5 9, one short", book, 0, &[0u32, 5, 9], 3)
+    show(rt, "D 2 5 9", book, 0, &[2, 5, 9], MOST_STEPS)?;
+    show(rt, "D 1 5 9", book, 0, &[1, 5, 9], MOST_STEPS)?;
+    show(rt, "D 0 5 9", book, 0, &[0, 5, 9], MOST_STEPS)?;
+    show(rt, "D 2 5 9, exactly enough", book, 0, &[2, 5, 9], 24)?;
+    show(rt, "D 2 5 9, one short", book, 0, &[2, 5, 9], 23)?;
+    show(rt, "D 1 5 9, one short", book, 0, &[1, 5, 9], 13)?;
+    show(rt, "D 0 5 9, one short", book, 0, &[0, 5, 9], 3)
 }
 
 // E: a difference that is always 0.
 fn book_e(rt: &impl Print) -> io::Result<()> {
     let book = b"\x01\x07\x00\x07\x00\x01\x00\x04\x12\x01\x11\x00\x11\x00";
-    show(rt, b"E 7", book, 0, &[7u32], 1000000)?;
-    show(rt, b"E 7, exactly enough", book, 0, &[7u32], 4)?;
-    show(rt, b"E 7, one short", book, 0, &[7u32], 3)
+    show(rt, "E 7", book, 0, &[7], MOST_STEPS)?;
+    show(rt, "E 7, exactly enough", book, 0, &[7], 4)?;
+    show(rt, "E 7, one short", book, 0, &[7], 3)
 }
 
 // F: a parameter set to 0.
 fn book_f(rt: &impl Print) -> io::Result<()> {
     let book = b"\x01\x07\x00\x0a\x00\x01\x00\x01\x00\x10\x00\x00\x00\x00\x04\x11\x00";
-    show(rt, b"F 7", book, 0, &[7u32], 1000000)?;
-    show(rt, b"F 7, exactly enough", book, 0, &[7u32], 4)?;
-    show(rt, b"F 7, one short", book, 0, &[7u32], 3)
+    show(rt, "F 7", book, 0, &[7], MOST_STEPS)?;
+    show(rt, "F 7, exactly enough", book, 0, &[7], 4)?;
+    show(rt, "F 7, one short", book, 0, &[7], 3)
 }
 
 // G: a return over 22 nested operations is read, over 23 it is not; a body of length 0.
 fn book_g(rt: &impl Print) -> io::Result<()> {
     let book =
         b"\x01\x07\x00\xa0\x00\x00\x00\x04\x12\x00\x10\x01\x00\x00\x00\x12\x00\x10\x01\x00\x00\x00\x12\x00\x10\x01\x00\x00\x00\x12\x00\x10\x01\x00\x00\x00\x12\x00\x10\x01\x00\x00\x00\x12\x00\x10\x01\x00\x00\x00\x12\x00\x10\x01\x00\x00\x00\x12\x00\x10\x01\x00\x00\x00\x12\x00\x10\x01\x00\x00\x00\x12\x00\x10\x01\x00\x00\x00\x12\x00\x10\x01\x00\x00\x00\x12\x00\x10\x01\x00\x00\x00\x12\x00\x10\x01\x00\x00\x00\x12\x00\x10\x01\x00\x00\x00\x12\x00\x10\x01\x00\x00\x00\x12\x00\x10\x01\x00\x00\x00\x12\x00\x10\x01\x00\x00\x00\x12\x00\x10\x01\x00\x00\x00\x12\x00\x10\x01\x00\x00\x00\x12\x00\x10\x01\x00\x00\x00\x12\x00\x10\x01\x00\x00\x00\x12\x00\x10\x01\x00\x00\x00\x10\x05\x00\x00\x00";
-    show(rt, b"G 22 operations", book, 0, &[0u32; 0], 1000000)?;
-    show(rt, b"G 22 operations, budget 0", book, 0, &[0u32; 0], 0)
+    show(rt, "G 22 operations", book, 0, &[], MOST_STEPS)?;
+    show(rt, "G 22 operations, budget 0", book, 0, &[], 0)
 }
 
 fn book_g_23(rt: &impl Print) -> io::Result<()> {
     let book =
         b"\x01\x07\x00\xa7\x00\x00\x00\x04\x12\x00\x10\x01\x00\x00\x00\x12\x00\x10\x01\x00\x00\x00\x12\x00\x10\x01\x00\x00\x00\x12\x00\x10\x01\x00\x00\x00\x12\x00\x10\x01\x00\x00\x00\x12\x00\x10\x01\x00\x00\x00\x12\x00\x10\x01\x00\x00\x00\x12\x00\x10\x01\x00\x00\x00\x12\x00\x10\x01\x00\x00\x00\x12\x00\x10\x01\x00\x00\x00\x12\x00\x10\x01\x00\x00\x00\x12\x00\x10\x01\x00\x00\x00\x12\x00\x10\x01\x00\x00\x00\x12\x00\x10\x01\x00\x00\x00\x12\x00\x10\x01\x00\x00\x00\x12\x00\x10\x01\x00\x00\x00\x12\x00\x10\x01\x00\x00\x00\x12\x00\x10\x01\x00\x00\x00\x12\x00\x10\x01\x00\x00\x00\x12\x00\x10\x01\x00\x00\x00\x12\x00\x10\x01\x00\x00\x00\x12\x00\x10\x01\x00\x00\x00\x12\x00\x10\x01\x00\x00\x00\x10\x05\x00\x00\x00";
-    show(rt, b"G 23 operations", book, 0, &[0u32; 0], 1000000)
+    show(rt, "G 23 operations", book, 0, &[], MOST_STEPS)
 }
 
 fn book_g_empty(rt: &impl Print) -> io::Result<()> {
     let book = b"\x01\x07\x00\x00\x00\x00\x00";
-    show(rt, b"G an empty body", book, 0, &[0u32; 0], 1000000)
+    show(rt, "G an empty body", book, 0, &[], MOST_STEPS)
 }
 
 // M: a loop that takes 3 away each turn, and a recursion.
 fn book_m(rt: &impl Print) -> io::Result<()> {
     let book =
         b"\x02\x0d\x00\x23\x00\x02\x00\x30\x00\x19\x00\x01\x00\x03\x11\x00\x01\x01\x12\x00\x11\x00\x10\x01\x00\x00\x00\x01\x00\x12\x01\x11\x01\x10\x04\x00\x00\x00\x00\x04\x12\x00\x13\x01\x11\x00\x11\x01\x05\x11\x00\x04\x12\x02\x11\x00\x13\x01\x12\x01\x11\x00\x10\x01\x00\x00\x00\x04\x10\x00\x00\x00\x00";
-    show(rt, b"M procedure 1 on 3", book, 1, &[3u32], 1000000)?;
-    show(
-        rt,
-        b"M procedure 1 on 3, exactly enough",
-        book,
-        1,
-        &[3u32],
-        31,
-    )?;
-    show(rt, b"M procedure 1 on 3, one short", book, 1, &[3u32], 30)?;
-    show(rt, b"M procedure 1 on 0", book, 1, &[0u32], 1000000)?;
-    show(rt, b"M procedure 1 on 63", book, 1, &[63u32], 1000000)?;
-    show(rt, b"M procedure 1 on 64", book, 1, &[64u32], 1000000)?;
-    show(rt, b"M procedure 0 on 0 8", book, 0, &[0u32, 8], 1000000)?;
-    show(rt, b"M procedure 0 on 9 5", book, 0, &[9u32, 5], 1000000)?;
-    show(rt, b"M procedure 0 on 1 4", book, 0, &[1u32, 4], 1000000)?;
-    show(
-        rt,
-        b"M procedure 0 on 1 4, budget 40",
-        book,
-        0,
-        &[1u32, 4],
-        40,
-    )
+    show(rt, "M procedure 1 on 3", book, 1, &[3], MOST_STEPS)?;
+    show(rt, "M procedure 1 on 3, exactly enough", book, 1, &[3], 31)?;
+    show(rt, "M procedure 1 on 3, one short", book, 1, &[3], 30)?;
+    show(rt, "M procedure 1 on 0", book, 1, &[0], MOST_STEPS)?;
+    show(rt, "M procedure 1 on 63", book, 1, &[63], MOST_STEPS)?;
+    show(rt, "M procedure 1 on 64", book, 1, &[64], MOST_STEPS)?;
+    show(rt, "M procedure 0 on 0 8", book, 0, &[0, 8], MOST_STEPS)?;
+    show(rt, "M procedure 0 on 9 5", book, 0, &[9, 5], MOST_STEPS)?;
+    show(rt, "M procedure 0 on 1 4", book, 0, &[1, 4], MOST_STEPS)?;
+    show(rt, "M procedure 0 on 1 4, budget 40", book, 0, &[1, 4], 40)
 }
 
-// The operations at their edges.
-fn operation_sum(rt: &impl Print) -> io::Result<()> {
-    let book = b"\x01\x07\x00\x07\x00\x02\x00\x04\x12\x00\x11\x00\x11\x01";
-    show(
-        rt,
-        b"sum of 4294967295 and 1",
-        book,
-        0,
-        &[4294967295u32, 1],
-        1000000,
-    )?;
-    show(
-        rt,
-        b"sum of 2147483648 and 2147483648",
-        book,
-        0,
-        &[2147483648u32, 2147483648],
-        1000000,
-    )?;
-    show(rt, b"sum of 0 and 0", book, 0, &[0u32, 0], 1000000)
+// An operation at its edges.
+fn operation(rt: &impl Print, word: &str, code: u8, cases: &[[u32; 2]]) -> io::Result<()> {
+    let book = [1, 7, 0, 7, 0, 2, 0, 4, 0x12, code, 0x11, 0, 0x11, 1];
+    for &[a, b] in cases {
+        print!(rt; "{word} of {a} and {b}")?;
+        answer::<CELLS>(rt, &book, 0, &[a, b], MOST_STEPS)?;
+    }
+    Ok(())
 }
 
-fn operation_difference(rt: &impl Print) -> io::Result<()> {
-    let book = b"\x01\x07\x00\x07\x00\x02\x00\x04\x12\x01\x11\x00\x11\x01";
-    show(rt, b"difference of 0 and 1", book, 0, &[0u32, 1], 1000000)?;
-    show(
+fn operations(rt: &impl Print) -> io::Result<()> {
+    operation(
         rt,
-        b"difference of 1 and 4294967295",
-        book,
+        "sum",
         0,
-        &[1u32, 4294967295],
-        1000000,
+        &[[4294967295, 1], [2147483648, 2147483648], [0, 0]],
     )?;
-    show(rt, b"difference of 5 and 5", book, 0, &[5u32, 5], 1000000)
-}
-
-fn operation_product(rt: &impl Print) -> io::Result<()> {
-    let book = b"\x01\x07\x00\x07\x00\x02\x00\x04\x12\x02\x11\x00\x11\x01";
-    show(
+    operation(rt, "difference", 1, &[[0, 1], [1, 4294967295], [5, 5]])?;
+    operation(
         rt,
-        b"product of 65536 and 65536",
-        book,
-        0,
-        &[65536u32, 65536],
-        1000000,
+        "product",
+        2,
+        &[[65536, 65536], [4294967295, 4294967295], [3, 1431655765]],
     )?;
-    show(
+    operation(
         rt,
-        b"product of 4294967295 and 4294967295",
-        book,
-        0,
-        &[4294967295u32, 4294967295],
-        1000000,
+        "quotient",
+        3,
+        &[[7, 0], [4294967295, 1], [0, 5], [6, 7]],
     )?;
-    show(
+    operation(rt, "equal", 4, &[[0, 0], [0, 4294967295]])?;
+    operation(
         rt,
-        b"product of 3 and 1431655765",
-        book,
-        0,
-        &[3u32, 1431655765],
-        1000000,
-    )
-}
-
-fn operation_quotient(rt: &impl Print) -> io::Result<()> {
-    let book = b"\x01\x07\x00\x07\x00\x02\x00\x04\x12\x03\x11\x00\x11\x01";
-    show(rt, b"quotient of 7 and 0", book, 0, &[7u32, 0], 1000000)?;
-    show(
-        rt,
-        b"quotient of 4294967295 and 1",
-        book,
-        0,
-        &[4294967295u32, 1],
-        1000000,
+        "less",
+        5,
+        &[[2147483647, 2147483648], [4294967295, 0], [3, 3]],
     )?;
-    show(rt, b"quotient of 0 and 5", book, 0, &[0u32, 5], 1000000)?;
-    show(rt, b"quotient of 6 and 7", book, 0, &[6u32, 7], 1000000)
-}
-
-fn operation_equal(rt: &impl Print) -> io::Result<()> {
-    let book = b"\x01\x07\x00\x07\x00\x02\x00\x04\x12\x04\x11\x00\x11\x01";
-    show(rt, b"equal of 0 and 0", book, 0, &[0u32, 0], 1000000)?;
-    show(
-        rt,
-        b"equal of 0 and 4294967295",
-        book,
-        0,
-        &[0u32, 4294967295],
-        1000000,
-    )
-}
-
-fn operation_less(rt: &impl Print) -> io::Result<()> {
-    let book = b"\x01\x07\x00\x07\x00\x02\x00\x04\x12\x05\x11\x00\x11\x01";
-    show(
-        rt,
-        b"less of 2147483647 and 2147483648",
-        book,
-        0,
-        &[2147483647u32, 2147483648],
-        1000000,
-    )?;
-    show(
-        rt,
-        b"less of 4294967295 and 0",
-        book,
-        0,
-        &[4294967295u32, 0],
-        1000000,
-    )?;
-    show(rt, b"less of 3 and 3", book, 0, &[3u32, 3], 1000000)
-}
-
-fn operation_smaller(rt: &impl Print) -> io::Result<()> {
-    let book = b"\x01\x07\x00\x07\x00\x02\x00\x04\x12\x06\x11\x00\x11\x01";
-    show(
-        rt,
-        b"smaller of 2147483648 and 1",
-        book,
-        0,
-        &[2147483648u32, 1],
-        1000000,
-    )?;
-    show(
-        rt,
-        b"smaller of 0 and 4294967295",
-        book,
-        0,
-        &[0u32, 4294967295],
-        1000000,
-    )
-}
-
-fn operation_larger(rt: &impl Print) -> io::Result<()> {
-    let book = b"\x01\x07\x00\x07\x00\x02\x00\x04\x12\x07\x11\x00\x11\x01";
-    show(
-        rt,
-        b"larger of 2147483648 and 1",
-        book,
-        0,
-        &[2147483648u32, 1],
-        1000000,
-    )?;
-    show(
-        rt,
-        b"larger of 0 and 4294967295",
-        book,
-        0,
-        &[0u32, 4294967295],
-        1000000,
-    )
+    operation(rt, "smaller", 6, &[[2147483648, 1], [0, 4294967295]])?;
+    operation(rt, "larger", 7, &[[2147483648, 1], [0, 4294967295]])
 }
 
 // Mutual recursion: is the number even? Procedure 0 says, by procedure 1.
 fn mutual(rt: &impl Print) -> io::Result<()> {
     let book =
         b"\x02\x0d\x00\x15\x00\x01\x00\x22\x00\x15\x00\x01\x00\x05\x11\x00\x04\x13\x01\x12\x01\x11\x00\x10\x01\x00\x00\x00\x04\x10\x01\x00\x00\x00\x05\x11\x00\x04\x13\x00\x12\x01\x11\x00\x10\x01\x00\x00\x00\x04\x10\x00\x00\x00\x00";
-    show(rt, b"even 10", book, 0, &[10u32], 1000000)?;
-    show(rt, b"even 7", book, 0, &[7u32], 1000000)?;
-    show(rt, b"odd 7", book, 1, &[7u32], 1000000)?;
-    show(rt, b"even 63, depth 64", book, 0, &[63u32], 1000000)?;
-    show(rt, b"even 64, depth 65", book, 0, &[64u32], 1000000)
+    show(rt, "even 10", book, 0, &[10], MOST_STEPS)?;
+    show(rt, "even 7", book, 0, &[7], MOST_STEPS)?;
+    show(rt, "odd 7", book, 1, &[7], MOST_STEPS)?;
+    show(rt, "even 63, depth 64", book, 0, &[63], MOST_STEPS)?;
+    show(rt, "even 64, depth 65", book, 0, &[64], MOST_STEPS)
 }
 
 // A loop in a called procedure, twice, with calls in the condition and in the arguments: procedure 1 counts down from its parameter and adds up.
 fn called_loop(rt: &impl Print) -> io::Result<()> {
     let book =
         b"\x02\x0d\x00\x25\x00\x01\x01\x32\x00\x1a\x00\x01\x01\x03\x13\x01\x11\x00\x01\x01\x12\x00\x11\x01\x13\x01\x12\x01\x11\x00\x10\x01\x00\x00\x00\x01\x00\x12\x01\x11\x00\x10\x01\x00\x00\x00\x00\x04\x11\x01\x03\x11\x00\x01\x01\x12\x00\x11\x01\x11\x00\x01\x00\x12\x01\x11\x00\x10\x01\x00\x00\x00\x00\x04\x11\x01";
-    show(rt, b"sums of sums of 5", book, 0, &[5u32], 1000000)?;
-    show(rt, b"sum of 9", book, 1, &[9u32], 1000000)?;
-    show(rt, b"sums of sums of 0", book, 0, &[0u32], 1000000)?;
-    show(rt, b"sums of sums of 5, budget 100", book, 0, &[5u32], 100)
+    show(rt, "sums of sums of 5", book, 0, &[5], MOST_STEPS)?;
+    show(rt, "sum of 9", book, 1, &[9], MOST_STEPS)?;
+    show(rt, "sums of sums of 0", book, 0, &[0], MOST_STEPS)?;
+    show(rt, "sums of sums of 5, budget 100", book, 0, &[5], 100)
 }
 
 // Eight parameters and eight locals: each call has its locals 0 again, and the caller keeps its own.
 fn eight(rt: &impl Print) -> io::Result<()> {
     let book =
         b"\x02\x0d\x00\x5b\x00\x00\x01\x68\x00\x5f\x00\x08\x08\x01\x00\x13\x01\x10\x01\x00\x00\x00\x10\x02\x00\x00\x00\x10\x03\x00\x00\x00\x10\x04\x00\x00\x00\x10\x05\x00\x00\x00\x10\x06\x00\x00\x00\x10\x07\x00\x00\x00\x10\x08\x00\x00\x00\x04\x12\x00\x11\x00\x13\x01\x10\x00\x00\x00\x00\x10\x0a\x00\x00\x00\x10\x14\x00\x00\x00\x10\x1e\x00\x00\x00\x10\x28\x00\x00\x00\x10\x32\x00\x00\x00\x10\x3c\x00\x00\x00\x10\x46\x00\x00\x00\x01\x08\x12\x00\x11\x08\x11\x00\x01\x09\x12\x00\x11\x09\x11\x01\x01\x0a\x12\x00\x11\x0a\x11\x02\x01\x0b\x12\x00\x11\x0b\x11\x03\x01\x0c\x12\x00\x11\x0c\x11\x04\x01\x0d\x12\x00\x11\x0d\x11\x05\x01\x0e\x12\x00\x11\x0e\x11\x06\x01\x0f\x12\x00\x11\x0f\x11\x07\x04\x12\x00\x12\x00\x12\x00\x11\x08\x11\x09\x12\x00\x11\x0a\x11\x0b\x12\x00\x12\x00\x11\x0c\x11\x0d\x12\x00\x11\x0e\x11\x0f";
-    show(rt, b"two calls of eight", book, 0, &[0u32; 0], 1000000)?;
+    show(rt, "two calls of eight", book, 0, &[], MOST_STEPS)?;
     show(
         rt,
-        b"eight alone",
+        "eight alone",
         book,
         1,
-        &[8u32, 7, 6, 5, 4, 3, 2, 1],
-        1000000,
+        &[8, 7, 6, 5, 4, 3, 2, 1],
+        MOST_STEPS,
     )
 }
 
@@ -395,14 +272,14 @@ fn left_to_right(rt: &impl Print) -> io::Result<()> {
         b"\x03\x13\x00\x07\x00\x00\x00\x1a\x00\x03\x00\x00\x00\x1d\x00\x0d\x00\x00\x00\x04\x12\x00\x13\x01\x13\x02\x04\x13\x01\x03\x10\x01\x00\x00\x00\x00\x04\x10\x00\x00\x00\x00";
     show(
         rt,
-        b"too deep before it turns for ever",
+        "too deep before it turns for ever",
         book,
         0,
-        &[0u32; 0],
-        1000000,
+        &[],
+        MOST_STEPS,
     )?;
-    show(rt, b"turns for ever", book, 2, &[0u32; 0], 1000000)?;
-    show(rt, b"turns for ever, budget 7", book, 2, &[0u32; 0], 7)
+    show(rt, "turns for ever", book, 2, &[], MOST_STEPS)?;
+    show(rt, "turns for ever, budget 7", book, 2, &[], 7)
 }
 
 // The same, the other way round.
@@ -411,11 +288,11 @@ fn right_to_left(rt: &impl Print) -> io::Result<()> {
         b"\x03\x13\x00\x07\x00\x00\x00\x1a\x00\x03\x00\x00\x00\x1d\x00\x0d\x00\x00\x00\x04\x12\x00\x13\x02\x13\x01\x04\x13\x01\x03\x10\x01\x00\x00\x00\x00\x04\x10\x00\x00\x00\x00";
     show(
         rt,
-        b"turns for ever before it is too deep",
+        "turns for ever before it is too deep",
         book,
         0,
-        &[0u32; 0],
-        1000000,
+        &[],
+        MOST_STEPS,
     )
 }
 
@@ -423,141 +300,141 @@ fn right_to_left(rt: &impl Print) -> io::Result<()> {
 fn skipped(rt: &impl Print) -> io::Result<()> {
     let book =
         b"\x01\x07\x00\x83\x00\x01\x01\x02\x11\x00\x02\x11\x00\x03\x11\x00\x01\x01\x13\x00\x12\x02\x11\x00\x10\x03\x00\x00\x00\x00\x01\x01\x10\x04\x00\x00\x00\x00\x01\x01\x10\x02\x00\x00\x00\x00\x01\x01\x12\x00\x11\x01\x10\x01\x00\x00\x00\x00\x02\x10\x00\x00\x00\x00\x03\x11\x00\x00\x00\x01\x01\x10\x09\x00\x00\x00\x00\x00\x03\x12\x04\x11\x01\x10\x4d\x00\x00\x00\x02\x11\x00\x00\x03\x10\x01\x00\x00\x00\x00\x00\x00\x05\x11\x00\x01\x00\x10\x06\x00\x00\x00\x05\x11\x01\x04\x11\x00\x04\x10\x08\x00\x00\x00\x02\x11\x00\x00\x00\x04\x12\x00\x11\x01\x10\x64\x00\x00\x00";
-    show(rt, b"skipped 0", book, 0, &[0u32], 1000000)?;
-    show(rt, b"skipped 0, exactly enough", book, 0, &[0u32], 18)?;
-    show(rt, b"skipped 0, one short", book, 0, &[0u32], 17)?;
-    show(rt, b"skipped 1, budget 300", book, 0, &[1u32], 300)
+    show(rt, "skipped 0", book, 0, &[0], MOST_STEPS)?;
+    show(rt, "skipped 0, exactly enough", book, 0, &[0], 18)?;
+    show(rt, "skipped 0, one short", book, 0, &[0], 17)?;
+    show(rt, "skipped 1, budget 300", book, 0, &[1], 300)
 }
 
 // A pick whose first sequence is long.
 fn long_pick(rt: &impl Print) -> io::Result<()> {
     let book =
         b"\x01\x07\x00\x39\x01\x01\x00\x05\x11\x00\x03\x10\x00\x00\x00\x00\x01\x00\x10\x00\x00\x00\x00\x00\x03\x10\x00\x00\x00\x00\x01\x00\x10\x01\x00\x00\x00\x00\x03\x10\x00\x00\x00\x00\x01\x00\x10\x02\x00\x00\x00\x00\x03\x10\x00\x00\x00\x00\x01\x00\x10\x03\x00\x00\x00\x00\x03\x10\x00\x00\x00\x00\x01\x00\x10\x04\x00\x00\x00\x00\x03\x10\x00\x00\x00\x00\x01\x00\x10\x05\x00\x00\x00\x00\x03\x10\x00\x00\x00\x00\x01\x00\x10\x06\x00\x00\x00\x00\x03\x10\x00\x00\x00\x00\x01\x00\x10\x07\x00\x00\x00\x00\x03\x10\x00\x00\x00\x00\x01\x00\x10\x08\x00\x00\x00\x00\x03\x10\x00\x00\x00\x00\x01\x00\x10\x09\x00\x00\x00\x00\x03\x10\x00\x00\x00\x00\x01\x00\x10\x0a\x00\x00\x00\x00\x03\x10\x00\x00\x00\x00\x01\x00\x10\x0b\x00\x00\x00\x00\x03\x10\x00\x00\x00\x00\x01\x00\x10\x0c\x00\x00\x00\x00\x03\x10\x00\x00\x00\x00\x01\x00\x10\x0d\x00\x00\x00\x00\x03\x10\x00\x00\x00\x00\x01\x00\x10\x0e\x00\x00\x00\x00\x03\x10\x00\x00\x00\x00\x01\x00\x10\x0f\x00\x00\x00\x00\x03\x10\x00\x00\x00\x00\x01\x00\x10\x10\x00\x00\x00\x00\x03\x10\x00\x00\x00\x00\x01\x00\x10\x11\x00\x00\x00\x00\x03\x10\x00\x00\x00\x00\x01\x00\x10\x12\x00\x00\x00\x00\x03\x10\x00\x00\x00\x00\x01\x00\x10\x13\x00\x00\x00\x00\x05\x11\x00\x04\x10\x01\x00\x00\x00\x05\x11\x00\x04\x10\x02\x00\x00\x00\x04\x10\x03\x00\x00\x00\x04\x10\x04\x00\x00\x00";
-    show(rt, b"long pick 0", book, 0, &[0u32], 1000000)?;
-    show(rt, b"long pick 1", book, 0, &[1u32], 1000000)
+    show(rt, "long pick 0", book, 0, &[0], MOST_STEPS)?;
+    show(rt, "long pick 1", book, 0, &[1], MOST_STEPS)
 }
 
 // A tight loop: the last step of the greatest budget.
 fn million(rt: &impl Print) -> io::Result<()> {
     let book =
         b"\x01\x07\x00\x12\x00\x01\x00\x03\x11\x00\x01\x00\x12\x01\x11\x00\x10\x01\x00\x00\x00\x00\x04\x11\x00";
-    show(rt, b"count 166665", book, 0, &[166665u32], 1000000)?;
-    show(rt, b"count 166666", book, 0, &[166666u32], 1000000)?;
-    show(rt, b"count 166667", book, 0, &[166667u32], 1000000)?;
+    show(rt, "count 166665", book, 0, &[166665], MOST_STEPS)?;
+    show(rt, "count 166666", book, 0, &[166666], MOST_STEPS)?;
+    show(rt, "count 166667", book, 0, &[166667], MOST_STEPS)?;
     show(
         rt,
-        b"count 166666, over the budget",
+        "count 166666, over the budget",
         book,
         0,
-        &[166666u32],
-        1000001,
+        &[166666],
+        MOST_STEPS + 1,
     )?;
-    show(rt, b"count 3, exactly enough", book, 0, &[3u32], 22)?;
-    show(rt, b"count 3, one short", book, 0, &[3u32], 21)
+    show(rt, "count 3, exactly enough", book, 0, &[3], 22)?;
+    show(rt, "count 3, one short", book, 0, &[3], 21)
 }
 
 // Call depth 64 with expressions nested to depth 24 in each call.
 fn nested_sums(rt: &impl Print) -> io::Result<()> {
     let book =
         b"\x01\x07\x00\x9d\x00\x00\x00\x04\x12\x00\x10\x01\x00\x00\x00\x12\x00\x10\x01\x00\x00\x00\x12\x00\x10\x01\x00\x00\x00\x12\x00\x10\x01\x00\x00\x00\x12\x00\x10\x01\x00\x00\x00\x12\x00\x10\x01\x00\x00\x00\x12\x00\x10\x01\x00\x00\x00\x12\x00\x10\x01\x00\x00\x00\x12\x00\x10\x01\x00\x00\x00\x12\x00\x10\x01\x00\x00\x00\x12\x00\x10\x01\x00\x00\x00\x12\x00\x10\x01\x00\x00\x00\x12\x00\x10\x01\x00\x00\x00\x12\x00\x10\x01\x00\x00\x00\x12\x00\x10\x01\x00\x00\x00\x12\x00\x10\x01\x00\x00\x00\x12\x00\x10\x01\x00\x00\x00\x12\x00\x10\x01\x00\x00\x00\x12\x00\x10\x01\x00\x00\x00\x12\x00\x10\x01\x00\x00\x00\x12\x00\x10\x01\x00\x00\x00\x12\x00\x10\x01\x00\x00\x00\x13\x00";
-    show(rt, b"nested sums", book, 0, &[0u32; 0], 1000000)?;
-    show(rt, b"nested sums, one short", book, 0, &[0u32; 0], 2943)
+    show(rt, "nested sums", book, 0, &[], MOST_STEPS)?;
+    show(rt, "nested sums, one short", book, 0, &[], 2943)
 }
 
 // The same with ifs.
 fn nested_ifs(rt: &impl Print) -> io::Result<()> {
     let book =
         b"\x01\x07\x00\xb7\x00\x00\x01\x02\x10\x01\x00\x00\x00\x02\x10\x01\x00\x00\x00\x02\x10\x01\x00\x00\x00\x02\x10\x01\x00\x00\x00\x02\x10\x01\x00\x00\x00\x02\x10\x01\x00\x00\x00\x02\x10\x01\x00\x00\x00\x02\x10\x01\x00\x00\x00\x02\x10\x01\x00\x00\x00\x02\x10\x01\x00\x00\x00\x02\x10\x01\x00\x00\x00\x02\x10\x01\x00\x00\x00\x02\x10\x01\x00\x00\x00\x02\x10\x01\x00\x00\x00\x02\x10\x01\x00\x00\x00\x02\x10\x01\x00\x00\x00\x02\x10\x01\x00\x00\x00\x02\x10\x01\x00\x00\x00\x02\x10\x01\x00\x00\x00\x02\x10\x01\x00\x00\x00\x02\x10\x01\x00\x00\x00\x02\x10\x01\x00\x00\x00\x01\x00\x13\x00\x00\x00\x00\x00\x00\x00\x00\x00\x00\x00\x00\x00\x00\x00\x00\x00\x00\x00\x00\x00\x00\x00\x00\x00\x00\x00\x00\x00\x00\x00\x00\x00\x00\x00\x00\x00\x00\x00\x00\x00\x00\x00\x00\x00\x04\x11\x00";
-    show(rt, b"nested ifs", book, 0, &[0u32; 0], 1000000)
+    show(rt, "nested ifs", book, 0, &[], MOST_STEPS)
 }
 
 // The same with loops.
 fn nested_loops(rt: &impl Print) -> io::Result<()> {
     let book =
         b"\x01\x07\x00\xa1\x00\x00\x01\x03\x10\x01\x00\x00\x00\x03\x10\x01\x00\x00\x00\x03\x10\x01\x00\x00\x00\x03\x10\x01\x00\x00\x00\x03\x10\x01\x00\x00\x00\x03\x10\x01\x00\x00\x00\x03\x10\x01\x00\x00\x00\x03\x10\x01\x00\x00\x00\x03\x10\x01\x00\x00\x00\x03\x10\x01\x00\x00\x00\x03\x10\x01\x00\x00\x00\x03\x10\x01\x00\x00\x00\x03\x10\x01\x00\x00\x00\x03\x10\x01\x00\x00\x00\x03\x10\x01\x00\x00\x00\x03\x10\x01\x00\x00\x00\x03\x10\x01\x00\x00\x00\x03\x10\x01\x00\x00\x00\x03\x10\x01\x00\x00\x00\x03\x10\x01\x00\x00\x00\x03\x10\x01\x00\x00\x00\x03\x10\x01\x00\x00\x00\x01\x00\x13\x00\x00\x00\x00\x00\x00\x00\x00\x00\x00\x00\x00\x00\x00\x00\x00\x00\x00\x00\x00\x00\x00\x00\x04\x11\x00";
-    show(rt, b"nested loops", book, 0, &[0u32; 0], 1000000)
+    show(rt, "nested loops", book, 0, &[], MOST_STEPS)
 }
 
 // The same with calls of eight arguments in arguments.
 fn nested_arguments(rt: &impl Print) -> io::Result<()> {
     let book =
         b"\x02\x0d\x00\x31\x03\x00\x00\x3e\x03\x03\x00\x08\x00\x04\x13\x01\x10\x00\x00\x00\x00\x10\x00\x00\x00\x00\x10\x00\x00\x00\x00\x10\x00\x00\x00\x00\x10\x00\x00\x00\x00\x10\x00\x00\x00\x00\x10\x00\x00\x00\x00\x13\x01\x10\x00\x00\x00\x00\x10\x00\x00\x00\x00\x10\x00\x00\x00\x00\x10\x00\x00\x00\x00\x10\x00\x00\x00\x00\x10\x00\x00\x00\x00\x10\x00\x00\x00\x00\x13\x01\x10\x00\x00\x00\x00\x10\x00\x00\x00\x00\x10\x00\x00\x00\x00\x10\x00\x00\x00\x00\x10\x00\x00\x00\x00\x10\x00\x00\x00\x00\x10\x00\x00\x00\x00\x13\x01\x10\x00\x00\x00\x00\x10\x00\x00\x00\x00\x10\x00\x00\x00\x00\x10\x00\x00\x00\x00\x10\x00\x00\x00\x00\x10\x00\x00\x00\x00\x10\x00\x00\x00\x00\x13\x01\x10\x00\x00\x00\x00\x10\x00\x00\x00\x00\x10\x00\x00\x00\x00\x10\x00\x00\x00\x00\x10\x00\x00\x00\x00\x10\x00\x00\x00\x00\x10\x00\x00\x00\x00\x13\x01\x10\x00\x00\x00\x00\x10\x00\x00\x00\x00\x10\x00\x00\x00\x00\x10\x00\x00\x00\x00\x10\x00\x00\x00\x00\x10\x00\x00\x00\x00\x10\x00\x00\x00\x00\x13\x01\x10\x00\x00\x00\x00\x10\x00\x00\x00\x00\x10\x00\x00\x00\x00\x10\x00\x00\x00\x00\x10\x00\x00\x00\x00\x10\x00\x00\x00\x00\x10\x00\x00\x00\x00\x13\x01\x10\x00\x00\x00\x00\x10\x00\x00\x00\x00\x10\x00\x00\x00\x00\x10\x00\x00\x00\x00\x10\x00\x00\x00\x00\x10\x00\x00\x00\x00\x10\x00\x00\x00\x00\x13\x01\x10\x00\x00\x00\x00\x10\x00\x00\x00\x00\x10\x00\x00\x00\x00\x10\x00\x00\x00\x00\x10\x00\x00\x00\x00\x10\x00\x00\x00\x00\x10\x00\x00\x00\x00\x13\x01\x10\x00\x00\x00\x00\x10\x00\x00\x00\x00\x10\x00\x00\x00\x00\x10\x00\x00\x00\x00\x10\x00\x00\x00\x00\x10\x00\x00\x00\x00\x10\x00\x00\x00\x00\x13\x01\x10\x00\x00\x00\x00\x10\x00\x00\x00\x00\x10\x00\x00\x00\x00\x10\x00\x00\x00\x00\x10\x00\x00\x00\x00\x10\x00\x00\x00\x00\x10\x00\x00\x00\x00\x13\x01\x10\x00\x00\x00\x00\x10\x00\x00\x00\x00\x10\x00\x00\x00\x00\x10\x00\x00\x00\x00\x10\x00\x00\x00\x00\x10\x00\x00\x00\x00\x10\x00\x00\x00\x00\x13\x01\x10\x00\x00\x00\x00\x10\x00\x00\x00\x00\x10\x00\x00\x00\x00\x10\x00\x00\x00\x00\x10\x00\x00\x00\x00\x10\x00\x00\x00\x00\x10\x00\x00\x00\x00\x13\x01\x10\x00\x00\x00\x00\x10\x00\x00\x00\x00\x10\x00\x00\x00\x00\x10\x00\x00\x00\x00\x10\x00\x00\x00\x00\x10\x00\x00\x00\x00\x10\x00\x00\x00\x00\x13\x01\x10\x00\x00\x00\x00\x10\x00\x00\x00\x00\x10\x00\x00\x00\x00\x10\x00\x00\x00\x00\x10\x00\x00\x00\x00\x10\x00\x00\x00\x00\x10\x00\x00\x00\x00\x13\x01\x10\x00\x00\x00\x00\x10\x00\x00\x00\x00\x10\x00\x00\x00\x00\x10\x00\x00\x00\x00\x10\x00\x00\x00\x00\x10\x00\x00\x00\x00\x10\x00\x00\x00\x00\x13\x01\x10\x00\x00\x00\x00\x10\x00\x00\x00\x00\x10\x00\x00\x00\x00\x10\x00\x00\x00\x00\x10\x00\x00\x00\x00\x10\x00\x00\x00\x00\x10\x00\x00\x00\x00\x13\x01\x10\x00\x00\x00\x00\x10\x00\x00\x00\x00\x10\x00\x00\x00\x00\x10\x00\x00\x00\x00\x10\x00\x00\x00\x00\x10\x00\x00\x00\x00\x10\x00\x00\x00\x00\x13\x01\x10\x00\x00\x00\x00\x10\x00\x00\x00\x00\x10\x00\x00\x00\x00\x10\x00\x00\x00\x00\x10\x00\x00\x00\x00\x10\x00\x00\x00\x00\x10\x00\x00\x00\x00\x13\x01\x10\x00\x00\x00\x00\x10\x00\x00\x00\x00\x10\x00\x00\x00\x00\x10\x00\x00\x00\x00\x10\x00\x00\x00\x00\x10\x00\x00\x00\x00\x10\x00\x00\x00\x00\x13\x01\x10\x00\x00\x00\x00\x10\x00\x00\x00\x00\x10\x00\x00\x00\x00\x10\x00\x00\x00\x00\x10\x00\x00\x00\x00\x10\x00\x00\x00\x00\x10\x00\x00\x00\x00\x13\x01\x10\x00\x00\x00\x00\x10\x00\x00\x00\x00\x10\x00\x00\x00\x00\x10\x00\x00\x00\x00\x10\x00\x00\x00\x00\x10\x00\x00\x00\x00\x10\x00\x00\x00\x00\x13\x00\x04\x11\x07";
-    show(rt, b"nested arguments", book, 0, &[0u32; 0], 1000000)?;
-    show(
-        rt,
-        b"nested arguments, one short",
-        book,
-        0,
-        &[0u32; 0],
-        11391,
-    )
+    show(rt, "nested arguments", book, 0, &[], MOST_STEPS)?;
+    show(rt, "nested arguments, one short", book, 0, &[], 11391)
 }
 
 // Depth exactly 64, and 65.
 fn depth(rt: &impl Print) -> io::Result<()> {
     let book =
         b"\x01\x07\x00\x1c\x00\x01\x00\x05\x11\x00\x04\x12\x00\x10\x01\x00\x00\x00\x13\x00\x12\x01\x11\x00\x10\x01\x00\x00\x00\x04\x10\x00\x00\x00\x00";
-    show(rt, b"count of 63, depth 64", book, 0, &[63u32], 1000000)?;
-    show(rt, b"count of 64, depth 65", book, 0, &[64u32], 1000000)
+    show(rt, "count of 63, depth 64", book, 0, &[63], MOST_STEPS)?;
+    show(rt, "count of 64, depth 65", book, 0, &[64], MOST_STEPS)
 }
 
 // Refusals, and their order.
 fn refusals(rt: &impl Print) -> io::Result<()> {
     let book = b"\x01\x07\x00\x03\x00\x01\x00\x04\x11\x00";
-    show(rt, b"no such procedure", book, 1, &[9u32], 1000000)?;
-    show_1023(
+    show(rt, "no such procedure", book, 1, &[9], MOST_STEPS)?;
+    show_in::<TOO_FEW>(
         rt,
-        b"no such procedure before inputs, cells and budget",
+        "no such procedure before inputs, cells and budget",
         book,
         32,
-        &[0u32; 0],
-        1000001,
+        &[],
+        MOST_STEPS + 1,
     )?;
-    show(rt, b"no inputs", book, 0, &[0u32; 0], 1000000)?;
-    show(rt, b"two inputs", book, 0, &[9u32, 9], 1000000)?;
-    show_1023(
+    show(rt, "no inputs", book, 0, &[], MOST_STEPS)?;
+    show(rt, "two inputs", book, 0, &[9, 9], MOST_STEPS)?;
+    show_in::<TOO_FEW>(
         rt,
-        b"inputs before cells and budget",
+        "inputs before cells and budget",
         book,
         0,
-        &[0u32; 0],
-        1000001,
+        &[],
+        MOST_STEPS + 1,
     )?;
-    show_1023(rt, b"1,023 cells", book, 0, &[9u32], 1000000)?;
-    show_1023(rt, b"cells before budget", book, 0, &[9u32], 1000001)?;
-    show_1024(rt, b"1,024 cells", book, 0, &[9u32], 1000000)?;
-    show(rt, b"over the greatest budget", book, 0, &[9u32], 1000001)
+    show_in::<TOO_FEW>(rt, "1,023 cells", book, 0, &[9], MOST_STEPS)?;
+    show_in::<TOO_FEW>(rt, "cells before budget", book, 0, &[9], MOST_STEPS + 1)?;
+    show_in::<LEAST_CELLS>(rt, "1,024 cells", book, 0, &[9], MOST_STEPS)?;
+    show(
+        rt,
+        "over the greatest budget",
+        book,
+        0,
+        &[9],
+        MOST_STEPS + 1,
+    )
 }
 
 // A book of no bytes.
 fn no_book(rt: &impl Print) -> io::Result<()> {
     let book = b"";
-    show(rt, b"no bytes", book, 0, &[9u32], 1000000)
+    show(rt, "no bytes", book, 0, &[9], MOST_STEPS)
 }
 
 // Parameters out of range, before everything of the run.
 fn bad_contents(rt: &impl Print) -> io::Result<()> {
     let book = b"\x01\x07\x00\x03\x00\x09\x00\x04\x11\x00";
-    show_1023(rt, b"bad contents", book, 1, &[9u32], 1000001)
+    show_in::<TOO_FEW>(rt, "bad contents", book, 1, &[9], MOST_STEPS + 1)
 }
 
 // A variable that is not there.
 fn bad_body(rt: &impl Print) -> io::Result<()> {
     let book = b"\x01\x07\x00\x03\x00\x01\x00\x04\x11\x01";
-    show_1023(rt, b"bad body", book, 1, &[9u32], 1000001)
+    show_in::<TOO_FEW>(rt, "bad body", book, 1, &[9], MOST_STEPS + 1)
 }
 
 // 65 loops, and 64.
 fn many_loops(rt: &impl Print) -> io::Result<()> {
     let book =
         b"\x01\x07\x00\xcd\x01\x00\x00\x03\x10\x00\x00\x00\x00\x00\x03\x10\x00\x00\x00\x00\x00\x03\x10\x00\x00\x00\x00\x00\x03\x10\x00\x00\x00\x00\x00\x03\x10\x00\x00\x00\x00\x00\x03\x10\x00\x00\x00\x00\x00\x03\x10\x00\x00\x00\x00\x00\x03\x10\x00\x00\x00\x00\x00\x03\x10\x00\x00\x00\x00\x00\x03\x10\x00\x00\x00\x00\x00\x03\x10\x00\x00\x00\x00\x00\x03\x10\x00\x00\x00\x00\x00\x03\x10\x00\x00\x00\x00\x00\x03\x10\x00\x00\x00\x00\x00\x03\x10\x00\x00\x00\x00\x00\x03\x10\x00\x00\x00\x00\x00\x03\x10\x00\x00\x00\x00\x00\x03\x10\x00\x00\x00\x00\x00\x03\x10\x00\x00\x00\x00\x00\x03\x10\x00\x00\x00\x00\x00\x03\x10\x00\x00\x00\x00\x00\x03\x10\x00\x00\x00\x00\x00\x03\x10\x00\x00\x00\x00\x00\x03\x10\x00\x00\x00\x00\x00\x03\x10\x00\x00\x00\x00\x00\x03\x10\x00\x00\x00\x00\x00\x03\x10\x00\x00\x00\x00\x00\x03\x10\x00\x00\x00\x00\x00\x03\x10\x00\x00\x00\x00\x00\x03\x10\x00\x00\x00\x00\x00\x03\x10\x00\x00\x00\x00\x00\x03\x10\x00\x00\x00\x00\x00\x03\x10\x00\x00\x00\x00\x00\x03\x10\x00\x00\x00\x00\x00\x03\x10\x00\x00\x00\x00\x00\x03\x10\x00\x00\x00\x00\x00\x03\x10\x00\x00\x00\x00\x00\x03\x10\x00\x00\x00\x00\x00\x03\x10\x00\x00\x00\x00\x00\x03\x10\x00\x00\x00\x00\x00\x03\x10\x00\x00\x00\x00\x00\x03\x10\x00\x00\x00\x00\x00\x03\x10\x00\x00\x00\x00\x00\x03\x10\x00\x00\x00\x00\x00\x03\x10\x00\x00\x00\x00\x00\x03\x10\x00\x00\x00\x00\x00\x03\x10\x00\x00\x00\x00\x00\x03\x10\x00\x00\x00\x00\x00\x03\x10\x00\x00\x00\x00\x00\x03\x10\x00\x00\x00\x00\x00\x03\x10\x00\x00\x00\x00\x00\x03\x10\x00\x00\x00\x00\x00\x03\x10\x00\x00\x00\x00\x00\x03\x10\x00\x00\x00\x00\x00\x03\x10\x00\x00\x00\x00\x00\x03\x10\x00\x00\x00\x00\x00\x03\x10\x00\x00\x00\x00\x00\x03\x10\x00\x00\x00\x00\x00\x03\x10\x00\x00\x00\x00\x00\x03\x10\x00\x00\x00\x00\x00\x03\x10\x00\x00\x00\x00\x00\x03\x10\x00\x00\x00\x00\x00\x03\x10\x00\x00\x00\x00\x00\x03\x10\x00\x00\x00\x00\x00\x03\x10\x00\x00\x00\x00\x00\x04\x10\x01\x00\x00\x00";
-    show(rt, b"65 loops", book, 0, &[0u32; 0], 1000000)
+    show(rt, "65 loops", book, 0, &[], MOST_STEPS)
 }
 
 fn most_loops(rt: &impl Print) -> io::Result<()> {
     let book =
         b"\x01\x07\x00\xc6\x01\x00\x00\x03\x10\x00\x00\x00\x00\x00\x03\x10\x00\x00\x00\x00\x00\x03\x10\x00\x00\x00\x00\x00\x03\x10\x00\x00\x00\x00\x00\x03\x10\x00\x00\x00\x00\x00\x03\x10\x00\x00\x00\x00\x00\x03\x10\x00\x00\x00\x00\x00\x03\x10\x00\x00\x00\x00\x00\x03\x10\x00\x00\x00\x00\x00\x03\x10\x00\x00\x00\x00\x00\x03\x10\x00\x00\x00\x00\x00\x03\x10\x00\x00\x00\x00\x00\x03\x10\x00\x00\x00\x00\x00\x03\x10\x00\x00\x00\x00\x00\x03\x10\x00\x00\x00\x00\x00\x03\x10\x00\x00\x00\x00\x00\x03\x10\x00\x00\x00\x00\x00\x03\x10\x00\x00\x00\x00\x00\x03\x10\x00\x00\x00\x00\x00\x03\x10\x00\x00\x00\x00\x00\x03\x10\x00\x00\x00\x00\x00\x03\x10\x00\x00\x00\x00\x00\x03\x10\x00\x00\x00\x00\x00\x03\x10\x00\x00\x00\x00\x00\x03\x10\x00\x00\x00\x00\x00\x03\x10\x00\x00\x00\x00\x00\x03\x10\x00\x00\x00\x00\x00\x03\x10\x00\x00\x00\x00\x00\x03\x10\x00\x00\x00\x00\x00\x03\x10\x00\x00\x00\x00\x00\x03\x10\x00\x00\x00\x00\x00\x03\x10\x00\x00\x00\x00\x00\x03\x10\x00\x00\x00\x00\x00\x03\x10\x00\x00\x00\x00\x00\x03\x10\x00\x00\x00\x00\x00\x03\x10\x00\x00\x00\x00\x00\x03\x10\x00\x00\x00\x00\x00\x03\x10\x00\x00\x00\x00\x00\x03\x10\x00\x00\x00\x00\x00\x03\x10\x00\x00\x00\x00\x00\x03\x10\x00\x00\x00\x00\x00\x03\x10\x00\x00\x00\x00\x00\x03\x10\x00\x00\x00\x00\x00\x03\x10\x00\x00\x00\x00\x00\x03\x10\x00\x00\x00\x00\x00\x03\x10\x00\x00\x00\x00\x00\x03\x10\x00\x00\x00\x00\x00\x03\x10\x00\x00\x00\x00\x00\x03\x10\x00\x00\x00\x00\x00\x03\x10\x00\x00\x00\x00\x00\x03\x10\x00\x00\x00\x00\x00\x03\x10\x00\x00\x00\x00\x00\x03\x10\x00\x00\x00\x00\x00\x03\x10\x00\x00\x00\x00\x00\x03\x10\x00\x00\x00\x00\x00\x03\x10\x00\x00\x00\x00\x00\x03\x10\x00\x00\x00\x00\x00\x03\x10\x00\x00\x00\x00\x00\x03\x10\x00\x00\x00\x00\x00\x03\x10\x00\x00\x00\x00\x00\x03\x10\x00\x00\x00\x00\x00\x03\x10\x00\x00\x00\x00\x00\x03\x10\x00\x00\x00\x00\x00\x03\x10\x00\x00\x00\x00\x00\x04\x10\x01\x00\x00\x00";
-    show(rt, b"64 loops", book, 0, &[0u32; 0], 1000000)
+    show(rt, "64 loops", book, 0, &[], MOST_STEPS)
 }
 
 fn main(rt: HostRuntime) -> io::Result<()> {
@@ -571,14 +448,7 @@ fn main(rt: HostRuntime) -> io::Result<()> {
     book_g_23(&rt)?;
     book_g_empty(&rt)?;
     book_m(&rt)?;
-    operation_sum(&rt)?;
-    operation_difference(&rt)?;
-    operation_product(&rt)?;
-    operation_quotient(&rt)?;
-    operation_equal(&rt)?;
-    operation_less(&rt)?;
-    operation_smaller(&rt)?;
-    operation_larger(&rt)?;
+    operations(&rt)?;
     mutual(&rt)?;
     called_loop(&rt)?;
     eight(&rt)?;

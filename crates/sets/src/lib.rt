@@ -1,16 +1,43 @@
 // A set of parameters: one byte, bit i for parameter i.
 #![tactic(auto)]
 
-ghost use Rattle.std.specs.Prelude.{◌≡◌, ◌≤◌, ◌<◌};
+ghost use Rattle.std.specs.Prelude.{◌≡◌, ℕ, ◌≤◌, ◌<◌};
 ghost use Rattle.meaning.specs.Limits.{most_parameters};
-ghost use Rattle.meaning.specs.Sets.{single, union, member, inside, upto};
+ghost use Rattle.meaning.specs.Sets.{empty, single, union, member, inside, upto};
+
+use std::marker::Model;
 
 // A set as a number.
 pub type Bits = u8;
 
-#[derive(Clone, Copy)]
+#[derive(Clone, Copy, Debug, PartialEq, Eq)]
 pub struct Set {
     pub bits: Bits,
+}
+
+// A clause sees a set as its number.
+impl Model for Set {
+    ghost Value = { ℕ };
+
+    ghost view = { λ s. s.bits };
+
+    ghost inverse = { λ n. record { bits = n } };
+}
+
+impl From<Bits> for Set {
+    ghost from_gives = { λ bits set. set ≡ bits };
+
+    fn from(bits: Bits) -> Set {
+        Set { bits }
+    }
+}
+
+impl From<Set> for Bits {
+    ghost from_gives = { λ set bits. bits ≡ set };
+
+    fn from(set: Set) -> Bits {
+        set.bits
+    }
 }
 
 impl Set {
@@ -20,14 +47,14 @@ impl Set {
     // The set of one parameter.
     pub fn one(i: usize) -> Set
         requires { i < most_parameters }
-        ensures { result.bits ≡ single i }
+        ensures { result ≡ single i }
     {
         Set { bits: 1 << i }
     }
 
     // What either set names.
     pub fn union(self, other: Set) -> Set
-        ensures { result.bits ≡ union self.bits other.bits }
+        ensures { result ≡ union self other }
     {
         Set {
             bits: self.bits | other.bits,
@@ -37,14 +64,14 @@ impl Set {
     // Parameter i is in the set.
     pub fn has(self, i: usize) -> bool
         requires { i < most_parameters }
-        ensures { result ≡ member i self.bits }
+        ensures { result ≡ member i self }
     {
         (self.bits >> i) % 2 == 1
     }
 
     // Every parameter that this set names, the other names too.
     pub fn within(self, other: Set) -> bool
-        ensures { result ≡ inside self.bits other.bits }
+        ensures { result ≡ inside self other }
     {
         (self.bits | other.bits) == other.bits
     }
@@ -52,7 +79,7 @@ impl Set {
     // The set names none but the first n parameters.
     pub fn among(self, n: usize) -> bool
         requires { n ≤ most_parameters }
-        ensures { result ≡ inside self.bits (upto n) }
+        ensures { result ≡ inside self (upto n) }
     {
         (self.bits as u16) >> n == 0
     }

@@ -9,15 +9,13 @@ use lib.Dec.{eqb, leb}
 use lib.ListN.{length, get_or, take, drop}
 use Rattle.meaning.specs.Limits.{entry_bytes, most_procedures, most_parameters, most_locals}
 use Rattle.meaning.specs.Tree.{Book, Closing, loops_of}
-use Rattle.meaning.specs.Reading.{Parsed, got, bad, more, Entry, pair, entry, entries, procedures, contents_end, in_turn, contents, scope, body, body_of, bodies, loops_all}
+use Rattle.meaning.specs.Reading.{Parsed, got, bad, more, Entry, pair, entry, entries, procedures, contents_end, in_turn, contents, arities, scope, body, body_of, bodies, loops_all}
 use Rattle.meaning.proofs.Lists.{both_left, both_right}
-use Rattle.book.specs.declared.taken.Taken as T
-use Rattle.book.specs.declared.taken.Taken.TheVariants.{Bytes, Fault as Taken-as-Fault}
-use Rattle.book.specs.declared.bodies.Counted.{Counted}
-use Rattle.book.specs.declared.bodies.Counted.TheVariants.{Sets, Fault}
 use Rattle.book.specs.Parts.{naming, body_taken}
-use Rattle.book.specs.Counted.{sets_all, counted, counted_of, sets_in, Judged}
-use Rattle.book.proofs.Parts.{Got, was_got, was_bad}
+use Rattle.book.specs.Taken as T
+use Rattle.book.specs.Taken.{Bytes, plus}
+use Rattle.book.specs.Counted.{Counted, Sets, Fault, sets_all, counted, counted_of}
+use Rattle.book.proofs.Parts.{Got, was_got, was_bad, was_behind, was_stopped}
 use Rattle.book.proofs.Laws.Contents.{entries_next, entries_over, whole_turns, turns, turn}
 
 -- What the contents tell of entry i, whose body begins at `at`.
@@ -59,9 +57,6 @@ turned b i at e h r =
 abbrev pub add_sets : ℕ → ℕ → Counted → Counted
 add_sets l k (Sets a b) = Sets (l + a) (k + b)
 add_sets l k (Fault r p) = Fault r p
-
-pub sets_in_lem : {t : Counted} {l k : ℕ} → t ≡ Sets l k → sets_in t ≡ k
-sets_in_lem e = rw e
 
 add_add : (l k m n : ℕ) (t : Counted) → add_sets l k (add_sets m n t) ≡ add_sets (l + m) (k + n) t
 add_add l k m n (Sets a b) = ap₂ Sets (omega arith) (omega arith)
@@ -121,11 +116,11 @@ part_of {t} {x} {y} {n} b ar i at u w p q h =
     let e : at + n - at ≡ n = omega arith in
     rw (p, q, e, w, ← u.offset) at h
 
-pub ahead_more : {t : T.Taken} {count x y n m l : ℕ} (b ar : List ℕ) (i at loops sets : ℕ) → count ≡ procedures b → i < count → Ahead b ar i at loops sets →
+ahead_one : {t : T.Taken} {count x y n m l : ℕ} (b ar : List ℕ) (i at loops sets : ℕ) → count ≡ procedures b → i < count → Ahead b ar i at loops sets →
     n ≡ pair b (1 + entry_bytes * i + 2) → x ≡ get_or b (1 + entry_bytes * i + 4) 0 → y ≡ get_or b (1 + entry_bytes * i + 5) 0 → t ≡ Bytes m l →
     t ≡ body_taken (naming (x + y) ar) (take (at + n - at) (drop at b)) → Ahead b ar (i + 1) (at + n) (loops + l) (sets + (x + y) * l)
 unfolding body_of more
-ahead_more {t} {count} {x} {y} {n} {m} {l} b ar i at loops sets c h a w p q e r =
+ahead_one {t} {count} {x} {y} {n} {m} {l} b ar i at loops sets c h a w p q e r =
     let u : Turned b i at = turned b i at c h a.turning in
     let E : Entry = entry b i in
     let s : Parsed Closing = body (scope ar E) (take E.bytes (drop E.offset b)) in
@@ -141,22 +136,30 @@ ahead_more {t} {count} {x} {y} {n} {m} {l} b ar i at loops sets c h a w p q e r 
           ∙ add_add loops sets l ((x + y) * l) rest;
     }
 
-pub ahead_fault : {t : T.Taken} {count x y n z p : ℕ} (b ar : List ℕ) (i at loops sets : ℕ) → count ≡ procedures b → i < count → Ahead b ar i at loops sets →
-    n ≡ pair b (1 + entry_bytes * i + 2) → x ≡ get_or b (1 + entry_bytes * i + 4) 0 → y ≡ get_or b (1 + entry_bytes * i + 5) 0 → t ≡ Taken-as-Fault z p →
-    t ≡ body_taken (naming (x + y) ar) (take (at + n - at) (drop at b)) → Judged b ar → Fault z (at + p) ≡ counted_of b
+pub ahead_more : {t : T.Taken} {count x y n m l : ℕ} (b ar : List ℕ) (i at loops sets : ℕ) → count ≡ procedures b → i < count → Ahead b ar i at loops sets →
+    n ≡ pair b (1 + entry_bytes * i + 2) → x ≡ get_or b (1 + entry_bytes * i + 4) 0 → y ≡ get_or b (1 + entry_bytes * i + 5) 0 →
+    t ≡ body_taken (naming (x + y) ar) (take (at + n - at) (drop at b)) → Bytes m l ≡ plus at 0 t → Ahead b ar (i + 1) (at + n) (loops + l) (sets + (x + y) * l)
+ahead_more {t} {count} {x} {y} {n} {m} {l} b ar i at loops sets c h a w p q r f =
+    let o = was_behind at 0 t f in
+    ahead_one b ar i at loops sets c h a w p q (o.is ∙ ap (Bytes o.bytes) (omega (arith, o.all_loops))) r
+
+pub ahead_fault : {t : T.Taken} {count x y n z p : ℕ} (b : List ℕ) (i at loops sets : ℕ) → count ≡ procedures b → i < count → Ahead b (arities (entries b)) i at loops sets →
+    n ≡ pair b (1 + entry_bytes * i + 2) → x ≡ get_or b (1 + entry_bytes * i + 4) 0 → y ≡ get_or b (1 + entry_bytes * i + 5) 0 →
+    t ≡ body_taken (naming (x + y) (arities (entries b))) (take (at + n - at) (drop at b)) → T.Fault z p ≡ plus at 0 t → Fault z p ≡ counted_of b
 unfolding body_of more
-ahead_fault {t} {count} {x} {y} {n} {z} {p} b ar i at loops sets c h a w f q e r j =
+ahead_fault {t} {count} {x} {y} {n} {z} {p} b i at loops sets c h a w f q r g =
+    let ar : List ℕ = arities (entries b) in
+    let o = was_stopped at 0 t g in
+    let e : t ≡ T.Fault z o.place = o.is in
     let u : Turned b i at = turned b i at c h a.turning in
     let E : Entry = entry b i in
     let s : Parsed Closing = body (scope ar E) (take E.bytes (drop E.offset b)) in
-    let fault : s ≡ bad z p = was_bad loops_of s e (part_of b ar i at u w f q r) in
-    let read : body_of b ar E ≡ bad z (E.offset + p) = rw fault in
-    rw (← j.counts)
-    (sym (a.same ∙ ap (λ es. add_sets loops sets (counted (bodies b ar es))) (entries_next b i (omega arith))
-    ∙ ap (add_sets loops sets) (one_bad b ar E (drop (i + 1) (entries b)) z (E.offset + p) read) ∙ ap₂ Fault refl (omega (arith, u.offset))))
+    let fault : s ≡ bad z o.place = was_bad loops_of s e (part_of b ar i at u w f q r) in
+    let read : body_of b ar E ≡ bad z (E.offset + o.place) = rw fault in
+    sym (a.same ∙ ap (λ es. add_sets loops sets (counted (bodies b ar es))) (entries_next b i (omega arith))
+    ∙ ap (add_sets loops sets) (one_bad b ar E (drop (i + 1) (entries b)) z (E.offset + o.place) read) ∙ ap₂ Fault refl (omega (arith, u.offset, o.all_places)))
 
-pub ahead_end : {count : ℕ} (b ar : List ℕ) (i at loops sets : ℕ) → count ≡ procedures b → count ≤ i → Ahead b ar i at loops sets → Judged b ar → Sets loops sets ≡ counted_of b
+pub ahead_end : {count : ℕ} (b : List ℕ) (i at loops sets : ℕ) → count ≡ procedures b → count ≤ i → Ahead b (arities (entries b)) i at loops sets → Sets loops sets ≡ counted_of b
 unfolding bodies counted loops_all sets_all
-ahead_end b ar i at loops sets c h a j =
-    rw (← j.counts)
-    (sym (a.same ∙ ap (λ es. add_sets loops sets (counted (bodies b ar es))) (entries_over b i (omega arith)) ∙ ap₂ Sets (omega arith) (omega arith)))
+ahead_end b i at loops sets c h a =
+    sym (a.same ∙ ap (λ es. add_sets loops sets (counted (bodies b (arities (entries b)) es))) (entries_over b i (omega arith)) ∙ ap₂ Sets (omega arith) (omega arith))

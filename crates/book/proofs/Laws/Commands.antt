@@ -14,16 +14,14 @@ use Rattle.meaning.specs.Tree.{Cmd, Run, assign, branch, loop, stop, then, loops
 use Rattle.meaning.specs.Reading.{ended_early, too_deep, unknown_code, no_variable}
 use Rattle.meaning.specs.Reading.{Parsed, got, bad, more, next, passing, and_then, Scope, CmdForm, an_assignment, an_if, a_while, no_command}
 use Rattle.meaning.specs.Reading.{expr, until, run, cmd_form, cmd_of, command, last_form, closes}
-use Rattle.book.specs.declared.taken.Taken.{Taken}
-use Rattle.book.specs.declared.taken.Taken.TheVariants.{Bytes, Fault}
-use Rattle.book.specs.Taken.{taken, plus}
+use Rattle.book.specs.Taken.{Taken, Bytes, Fault, taken, plus}
 use Rattle.book.specs.Parts.{no_loops, expr_taken, command_taken, command_as, ending, ordinaries, ordinaries_taken, run_taken}
 use Rattle.book.proofs.Extent.{command_took}
-use Rattle.book.proofs.Laws.Forks.{fork_test, fork_first, fork_whole}
-use Rattle.book.proofs.Parts.{from, from_drop, plus_fault, plus_plus, plus_none, plus_loops, taken_more, Got, was_got, stops, ends_with, one_more, onward, plus_onward, onward_bytes, onward_fault, two_bytes, behind, stops_behind}
+use Rattle.book.proofs.Laws.Forks.{tested, test_stops, fork_test, fork_first, fork_whole}
+use Rattle.book.proofs.Parts.{from, from_drop, plus_plus, plus_none, plus_loops, taken_more, Behind, was_behind, was_stopped, stops, ends_with, one_more, onward, plus_onward, two_bytes, goes_behind}
 
 -- The codes that end ordinary commands.
-pub ends_closing : (closed : Bool) (k : ℕ) → closed ≡ true → k ≡ 0x04 → true ≡ ending closed k
+pub ends_closing : (closed : Bool) (k : ℕ) → closed ≡ true → k ≡ 0x04 → eqb k 0x04 ≡ ending closed k
 unfolding closes last_form
 ends_closing closed k h e = rw (h, e)
 
@@ -39,11 +37,11 @@ pub ends_run : (closed : Bool) (k : ℕ) → closed ≡ false → eqb 0x00 k ≡
 ends_run closed k h = rw h
 
 -- An assignment.
-pub assignment_short : (v : Scope) (d : ℕ) (s : List ℕ) → 1 ≤ length s → length s < 2 → Fault ended_early 1 ≡ command_as an_assignment v d s
+pub assignment_short : (v : Scope) (d : ℕ) (s : List ℕ) → length s ≤ 1 → Fault ended_early 1 ≡ command_as an_assignment v d s
 unfolding taken cmd_of next more
-assignment_short v d [] h l = absurd (omega arith)
-assignment_short v d (a ∷ []) h l = refl
-assignment_short v d (a ∷ b ∷ s) h l = absurd (omega arith)
+assignment_short v d [] h = refl
+assignment_short v d (a ∷ []) h = refl
+assignment_short v d (a ∷ b ∷ s) h = absurd (omega arith)
 
 pub assignment_unknown : {x : ℕ} (v : Scope) (d : ℕ) (s : List ℕ) → 2 ≤ length s → x ≡ get_or s 1 0 → v.variables ≤ x →
     Fault no_variable 1 ≡ command_as an_assignment v d s
@@ -63,57 +61,57 @@ assignment_known v d (a ∷ b ∷ s) h e l q w =
     ∙ two_bytes loops no_loops _ (expr v d s) (ends_with no_loops loops s (expr v d s) (assign b) 0 (λ e. refl) ∙ plus_none _))
 
 -- A while.
-pub while_test : {r t : Taken} {x q : ℕ} (v : Scope) (d : ℕ) (s : List ℕ) → t ≡ Fault x q → t ≡ expr_taken v d (from 1 s) → r ≡ plus 1 0 t → r ≡ command_as a_while v d s
+pub while_test : {t : Taken} {x q : ℕ} (v : Scope) (d : ℕ) (s : List ℕ) → t ≡ expr_taken v d (from 1 s) → Fault x q ≡ plus 1 1 t → Fault x q ≡ command_as a_while v d s
 unfolding cmd_of
-while_test v d s e h w = w ∙ stops_behind no_loops loops 1 (drop 1 s) (expr v d (drop 1 s)) _ e (rw from_drop at h)
+while_test v d s h w = test_stops loops v d s 1 _ h w
 
-pub while_whole : {r t u : Taken} {n l : ℕ} (v : Scope) (d : ℕ) (s : List ℕ) → t ≡ Bytes n l → t ≡ expr_taken v d (from 1 s) →
-    u ≡ run_taken v d (from (1 + n) s) → r ≡ plus (1 + n) 1 u → r ≡ command_as a_while v d s
+pub while_whole : {r t u : Taken} {n l : ℕ} (v : Scope) (d : ℕ) (s : List ℕ) → t ≡ expr_taken v d (from 1 s) → Bytes n l ≡ plus 1 1 t →
+    u ≡ run_taken v d (from n s) → r ≡ plus n l u → r ≡ command_as a_while v d s
 unfolding cmd_of loops
-while_whole {r} {t} {u} {n} {l} v d s e h w q =
-    let g : Got no_loops (expr v d (drop 1 s)) n l = was_got no_loops (expr v d (drop 1 s)) e (rw from_drop at h) in
-    let x : List ℕ = drop (1 + n) s in
-    let one : u ≡ run_taken v d x = rw (from_drop (1 + n) s) at w in
-    q ∙ ap (plus (1 + n) 1) one ∙ plus_loops (1 + n) 1 (run_taken v d x)
-    ∙ ap (plus (1 + n) 0) (sym (ends_with loops_in loops x (run (command v d) x) (loop 0 g.tree) 1 (λ a. refl)))
-    ∙ sym (behind no_loops loops 1 s (expr v d (drop 1 s)) _ g)
+while_whole {r} {t} {u} {n} {l} v d s h e w q =
+    let a = tested v d s 1 h e in
+    let x : List ℕ = drop n s in
+    let one : u ≡ run_taken v d x = rw (from_drop n s) at w in
+    q ∙ ap₂ (plus n) a.all_loops one ∙ plus_loops n 1 (run_taken v d x)
+    ∙ ap (plus n 0) (sym (ends_with loops_in loops x (run (command v d) x) (loop 0 a.got_it.tree) 1 (λ a. refl)))
+    ∙ sym (goes_behind no_loops loops 1 s (expr v d (drop 1 s)) _ a.all_bytes a.got_it)
 
 -- An if.
-pub if_test : {r t : Taken} {x q : ℕ} (v : Scope) (d : ℕ) (s : List ℕ) → t ≡ Fault x q → t ≡ expr_taken v d (from 1 s) → r ≡ plus 1 0 t → r ≡ command_as an_if v d s
+pub if_test : {t : Taken} {x q : ℕ} (v : Scope) (d : ℕ) (s : List ℕ) → t ≡ expr_taken v d (from 1 s) → Fault x q ≡ plus 1 0 t → Fault x q ≡ command_as an_if v d s
 unfolding cmd_of
 if_test v d s = fork_test loops branch (run (command v d)) v d s
 
-pub if_first : {r t u : Taken} {n l x p : ℕ} (v : Scope) (d : ℕ) (s : List ℕ) → t ≡ Bytes n l → t ≡ expr_taken v d (from 1 s) →
-    u ≡ Fault x p → u ≡ run_taken v d (from (1 + n) s) → r ≡ plus (1 + n) 0 u → r ≡ command_as an_if v d s
+pub if_first : {t u : Taken} {n l x q : ℕ} (v : Scope) (d : ℕ) (s : List ℕ) → t ≡ expr_taken v d (from 1 s) → Bytes n l ≡ plus 1 0 t →
+    u ≡ run_taken v d (from n s) → Fault x q ≡ plus n l u → Fault x q ≡ command_as an_if v d s
 unfolding cmd_of
 if_first v d s = fork_first loops_in loops branch (run (command v d)) v d s
 
-pub if_whole : {r t u y : Taken} {n l m k : ℕ} (v : Scope) (d : ℕ) (s : List ℕ) → t ≡ Bytes n l → t ≡ expr_taken v d (from 1 s) →
-    u ≡ Bytes m k → u ≡ run_taken v d (from (1 + n) s) → y ≡ run_taken v d (from (1 + n + m) s) → r ≡ plus (1 + n + m) k y → r ≡ command_as an_if v d s
+pub if_whole : {r t u y : Taken} {n l m k : ℕ} (v : Scope) (d : ℕ) (s : List ℕ) → t ≡ expr_taken v d (from 1 s) → Bytes n l ≡ plus 1 0 t →
+    u ≡ run_taken v d (from n s) → Bytes m k ≡ plus n l u → y ≡ run_taken v d (from m s) → r ≡ plus m k y → r ≡ command_as an_if v d s
 unfolding cmd_of loops
 if_whole v d s = fork_whole loops_in loops branch (run (command v d)) (λ e a b. refl) v d s
 
 -- A command, by its code.
-pub command_empty : (v : Scope) (d : ℕ) (s : List ℕ) → length s ≡ 0 → Fault ended_early 0 ≡ command_taken v d s
+pub command_empty : (v : Scope) (d : ℕ) (s : List ℕ) → length s ≤ 0 → Fault ended_early 0 ≡ command_taken v d s
 unfolding taken command next
 command_empty v zero [] h = refl
 command_empty v (suc d) [] h = refl
 command_empty v zero (k ∷ s) h = absurd (omega arith)
 command_empty v (suc d) (k ∷ s) h = absurd (omega arith)
 
-pub command_deep : (v : Scope) (d : ℕ) (s : List ℕ) → (length s ≡ 0 → ⊥) → d ≡ 0 → Fault too_deep 0 ≡ command_taken v d s
+pub command_deep : (v : Scope) (d : ℕ) (s : List ℕ) → 0 < length s → d ≡ 0 → Fault too_deep 0 ≡ command_taken v d s
 unfolding taken command next
-command_deep v zero [] h e = absurd (h refl)
-command_deep v (suc d) [] h e = absurd (h refl)
+command_deep v zero [] h e = absurd (omega arith)
+command_deep v (suc d) [] h e = absurd (omega arith)
 command_deep v zero (k ∷ s) h e = refl
 command_deep v (suc d) (k ∷ s) h e = absurd (omega arith)
 
-pub command_as_lem : {r : Taken} (f : CmdForm) (v : Scope) (d : ℕ) (s : List ℕ) → (length s ≡ 0 → ⊥) → (d ≡ 0 → ⊥) →
-    cmd_form (get_or s 0 0) ≡ f → r ≡ command_as f v (d - 1) s → r ≡ command_taken v d s
+pub command_as_lem : {r : Taken} {k : ℕ} (f : CmdForm) (v : Scope) (d : ℕ) (s : List ℕ) → 0 < length s → k ≡ get_or s 0 0 → (d ≡ 0 → ⊥) →
+    cmd_form k ≡ f → r ≡ command_as f v (d - 1) s → r ≡ command_taken v d s
 unfolding command next
-command_as_lem f v zero s h l e q = absurd (l refl)
-command_as_lem f v (suc d) [] h l e q = absurd (h refl)
-command_as_lem f v (suc d) (k ∷ s) h l e q = rw e (rw (sub-one (suc d)) at q)
+command_as_lem f v zero s h w l e q = absurd (omega arith)
+command_as_lem f v (suc d) [] h w l e q = absurd (omega arith)
+command_as_lem f v (suc d) (k ∷ s) h w l e q = rw (← w, e) (rw (sub-one (suc d)) at q)
 
 pub assignment_code : (k : ℕ) → k ≡ 0x01 → cmd_form k ≡ an_assignment
 unfolding cmd_form
@@ -127,11 +125,11 @@ pub while_code : (k : ℕ) → k ≡ 0x03 → cmd_form k ≡ a_while
 unfolding cmd_form
 while_code k e = rw e
 
-pub command_unknown : (v : Scope) (d : ℕ) (s : List ℕ) → (length s ≡ 0 → ⊥) → (d ≡ 0 → ⊥) → (get_or s 0 0 ≡ 0x01 → ⊥) → (get_or s 0 0 ≡ 0x02 → ⊥) →
-    (get_or s 0 0 ≡ 0x03 → ⊥) → Fault unknown_code 0 ≡ command_taken v d s
+pub command_unknown : {k : ℕ} (v : Scope) (d : ℕ) (s : List ℕ) → 0 < length s → k ≡ get_or s 0 0 → (d ≡ 0 → ⊥) → (k ≡ 0x01 → ⊥) → (k ≡ 0x02 → ⊥) →
+    (k ≡ 0x03 → ⊥) → Fault unknown_code 0 ≡ command_taken v d s
 unfolding cmd_form cmd_of taken
-command_unknown v d s h l a b c =
-    let k = get_or s 0 0 in command_as_lem no_command v d s h l (rw (ne_eqb k 0x01 a, cmd_form, ne_eqb k 0x02 b, ne_eqb k 0x03 c)) refl
+command_unknown {k} v d s h w l a b c =
+    command_as_lem no_command v d s h w l (rw (ne_eqb k 0x01 a, cmd_form, ne_eqb k 0x02 b, ne_eqb k 0x03 c)) refl
 
 -- Commands up to a code that ends them, one after another.
 until_ends : {B : Type 0} (ends : ℕ → Bool) (last : List ℕ → Parsed B) (one : List ℕ → Parsed Cmd) (join : Cmd → B → B) (n k : ℕ) (s : List ℕ) →
@@ -157,7 +155,7 @@ module _ (ends : ℕ → Bool) (one : List ℕ → Parsed Cmd) where
   at_end n [] h e = absurd (omega arith)
   at_end n (k ∷ s) h e = rw (until_ends ends over one then n k s e)
 
-  at_nothing : (n : ℕ) (s : List ℕ) → length s ≡ 0 → Fault ended_early 0 ≡ some n s
+  at_nothing : (n : ℕ) (s : List ℕ) → length s ≤ 0 → Fault ended_early 0 ≡ some n s
   unfolding ordinaries until taken
   at_nothing zero s h = refl
   at_nothing (suc n) [] h = refl
@@ -220,29 +218,32 @@ first_left : {b c : Bool} (ends : ℕ → Bool) (s : List ℕ) (at : ℕ) → b 
 first_left ends s at h e = rw (get_or-drop at s 0 0, add-zero at) (sym h ∙ e)
 
 pub rest_more : {b : Bool} {t : Taken} {m k : ℕ} (closed : Bool) (v : Scope) (d : ℕ) (s : List ℕ) (at l : ℕ) → Rest closed v d s at l → at < length s →
-    b ≡ ending closed (get_or s at 0) → b ≡ false → t ≡ Bytes m k → t ≡ command_taken v d (from at s) → Rest closed v d s (at + m) (l + k)
-rest_more {b} {t} {m} {k} closed v d s at l r h e f q w = go r.fuel r.enough r.same
+    b ≡ ending closed (get_or s at 0) → b ≡ false → t ≡ command_taken v d (from at s) → Bytes m k ≡ plus at l t → Rest closed v d s m k
+rest_more {b} {t} {m} {k} closed v d s at l r h e f w q = rw (← a.all_bytes, ← a.all_loops) at (go r.fuel r.enough r.same)
   where
-    go : (n : ℕ) → length s ≤ at + n → ordinaries_taken closed v d s ≡ plus at l (some (ending closed) (command v d) n (drop at s)) → Rest closed v d s (at + m) (l + k)
+    a : Behind at l t m k
+    a = was_behind at l t q
+
+    go : (n : ℕ) → length s ≤ at + n → ordinaries_taken closed v d s ≡ plus at l (some (ending closed) (command v d) n (drop at s)) → Rest closed v d s (at + a.bytes) (l + a.loops)
     go zero o x = absurd (omega arith)
     go (suc n) o x =
         record {
           fuel = n;
-          enough = omega (arith, command_took v d (from at s) q w);
+          enough = omega (arith, command_took v d (from at s) w q, a.all_bytes);
           same = x ∙ ap (plus at l) (at_more (ending closed) (command v d) n (drop at s) (omega (arith, length-drop at s))
-              (first_left (ending closed) s at e f) q (rw from_drop at w))
-              ∙ rw drop-drop (plus_plus at l m k (some (ending closed) (command v d) n (drop (at + m) s)));
+              (first_left (ending closed) s at e f) a.is (rw from_drop at w))
+              ∙ rw drop-drop (plus_plus at l a.bytes a.loops (some (ending closed) (command v d) n (drop (at + a.bytes) s)));
         }
 
 pub rest_fault : {b : Bool} {t : Taken} {x p : ℕ} (closed : Bool) (v : Scope) (d : ℕ) (s : List ℕ) (at l : ℕ) → Rest closed v d s at l → at < length s →
-    b ≡ ending closed (get_or s at 0) → b ≡ false → t ≡ Fault x p → t ≡ command_taken v d (from at s) → Fault x (at + p) ≡ ordinaries_taken closed v d s
-rest_fault {b} {t} {x} {p} closed v d s at l r h e f q w = go r.fuel r.enough r.same
+    b ≡ ending closed (get_or s at 0) → b ≡ false → t ≡ command_taken v d (from at s) → Fault x p ≡ plus at l t → Fault x p ≡ ordinaries_taken closed v d s
+rest_fault {b} {t} {x} {p} closed v d s at l r h e f w q = go r.fuel r.enough r.same
   where
-    go : (n : ℕ) → length s ≤ at + n → ordinaries_taken closed v d s ≡ plus at l (some (ending closed) (command v d) n (drop at s)) → Fault x (at + p) ≡ ordinaries_taken closed v d s
+    go : (n : ℕ) → length s ≤ at + n → ordinaries_taken closed v d s ≡ plus at l (some (ending closed) (command v d) n (drop at s)) → Fault x p ≡ ordinaries_taken closed v d s
     go zero o y = absurd (omega arith)
     go (suc n) o y =
-        plus_fault at l q ∙ ap (plus at l) (at_fault (ending closed) (command v d) n (drop at s) (omega (arith, length-drop at s))
-        (first_left (ending closed) s at e f) q (rw from_drop at w)) ∙ sym y
+        q ∙ ap (plus at l) (at_fault (ending closed) (command v d) n (drop at s) (omega (arith, length-drop at s))
+        (first_left (ending closed) s at e f) (was_stopped at l t q).is (rw from_drop at w)) ∙ sym y
 
 pub rest_end : {b : Bool} (closed : Bool) (v : Scope) (d : ℕ) (s : List ℕ) (at l : ℕ) → Rest closed v d s at l → at < length s →
     b ≡ ending closed (get_or s at 0) → b ≡ true → Bytes at l ≡ ordinaries_taken closed v d s
@@ -264,9 +265,8 @@ run_split : (v : Scope) (d : ℕ) (s : List ℕ) → run_taken v d s ≡ onward 
 unfolding run taken loops_in
 run_split v d s = split (ending false) (command v d) loops_in (λ s. got stop 1) then (λ c r. refl) (length s) s
 
-pub run_whole : {t : Taken} {m l : ℕ} (v : Scope) (d : ℕ) (s : List ℕ) → t ≡ Bytes m l → t ≡ ordinaries_taken false v d s → Bytes (m + 1) l ≡ run_taken v d s
-run_whole {t} {m} {l} v d s e h =
-    ap₂ Bytes refl (omega arith) ∙ sym (onward_bytes (λ i. Bytes 1 0) e) ∙ ap (λ t. onward t (λ i. Bytes 1 0)) h ∙ sym (run_split v d s)
+pub run_whole : {m l : ℕ} (v : Scope) (d : ℕ) (s : List ℕ) → Bytes m l ≡ ordinaries_taken false v d s → Bytes (m + 1) l ≡ run_taken v d s
+run_whole v d s h = ap₂ Bytes refl (omega arith) ∙ ap (λ t. onward t (λ i. Bytes 1 0)) h ∙ sym (run_split v d s)
 
-pub run_fault : {t : Taken} {r q : ℕ} (v : Scope) (d : ℕ) (s : List ℕ) → t ≡ Fault r q → t ≡ ordinaries_taken false v d s → t ≡ run_taken v d s
-run_fault v d s e h = sym (onward_fault (λ i. Bytes 1 0) e) ∙ ap (λ t. onward t (λ i. Bytes 1 0)) h ∙ sym (run_split v d s)
+pub run_fault : {r q : ℕ} (v : Scope) (d : ℕ) (s : List ℕ) → Fault r q ≡ ordinaries_taken false v d s → Fault r q ≡ run_taken v d s
+run_fault v d s h = ap (λ t. onward t (λ i. Bytes 1 0)) h ∙ sym (run_split v d s)

@@ -7,8 +7,8 @@ use native.Mathlib.Omega.{arith}
 use native.Mathlib.Numerals.{add-one}
 use borrow.Author.Tests.{le-leb, lt-leb, eq-eqb, ne_eqb}
 use lib.Dec.{eqb, leb}
-use lib.ListN.{length, get_or, take, drop, set, drop_of_length-le}
-use lib.Seq.{drop-cons, take-suc-set}
+use lib.ListN.{length, get_or, drop, drop_of_length-le}
+use lib.Seq.{drop-cons}
 use Rattle.meaning.specs.Limits.{entry_bytes, most_procedures, most_parameters, most_locals}
 use Rattle.meaning.specs.Lists.{each}
 use Rattle.meaning.specs.Reading.{pair, entry, entries, procedures, contents_end, in_turn, contents, arities}
@@ -50,19 +50,20 @@ module _ (b : List ℕ) (i at : ℕ) {count o : ℕ} (listed : count ≡ procedu
   met : o ≡ at → eqb (pair b (1 + entry_bytes * i)) at ≡ true
   met e = eq-eqb (pair b (1 + entry_bytes * i)) at (sym offset ∙ e)
 
-  pub turns_parameters : o ≡ at → most_parameters < get_or b (1 + entry_bytes * i + 4) 0 → false ≡ whole_turns b
-  turns_parameters e n = sym (r ∙ turn b i at (omega arith) ∙ rw (met e, lt-leb (get_or b (1 + entry_bytes * i + 4) 0) most_parameters n))
+  pub turns_parameters : {x : ℕ} → o ≡ at → x ≡ get_or b (1 + entry_bytes * i + 4) 0 → most_parameters < x → false ≡ whole_turns b
+  turns_parameters e x n = sym (r ∙ turn b i at (omega arith) ∙ rw (met e, lt-leb (get_or b (1 + entry_bytes * i + 4) 0) most_parameters (rw x at n)))
 
-  pub turns_locals : o ≡ at → get_or b (1 + entry_bytes * i + 4) 0 ≤ most_parameters → most_locals < get_or b (1 + entry_bytes * i + 5) 0 → false ≡ whole_turns b
-  turns_locals e m n =
+  pub turns_locals : {x y : ℕ} → o ≡ at → x ≡ get_or b (1 + entry_bytes * i + 4) 0 → x ≤ most_parameters → y ≡ get_or b (1 + entry_bytes * i + 5) 0 → most_locals < y →
+      false ≡ whole_turns b
+  turns_locals e x m y n =
       sym (r ∙ turn b i at (omega arith)
-      ∙ rw (met e, le-leb (get_or b (1 + entry_bytes * i + 4) 0) most_parameters m, lt-leb (get_or b (1 + entry_bytes * i + 5) 0) most_locals n))
+      ∙ rw (met e, le-leb (get_or b (1 + entry_bytes * i + 4) 0) most_parameters (rw x at m), lt-leb (get_or b (1 + entry_bytes * i + 5) 0) most_locals (rw y at n)))
 
-  pub turns_more : {n : ℕ} → o ≡ at → get_or b (1 + entry_bytes * i + 4) 0 ≤ most_parameters → get_or b (1 + entry_bytes * i + 5) 0 ≤ most_locals →
+  pub turns_more : {x y n : ℕ} → o ≡ at → x ≡ get_or b (1 + entry_bytes * i + 4) 0 → x ≤ most_parameters → y ≡ get_or b (1 + entry_bytes * i + 5) 0 → y ≤ most_locals →
       n ≡ pair b (1 + entry_bytes * i + 2) → whole_turns b ≡ turns b (i + 1) (at + n)
-  turns_more e m n q =
+  turns_more e x m y n q =
       r ∙ turn b i at (omega arith)
-      ∙ rw (met e, le-leb (get_or b (1 + entry_bytes * i + 4) 0) most_parameters m, le-leb (get_or b (1 + entry_bytes * i + 5) 0) most_locals n, q)
+      ∙ rw (met e, le-leb (get_or b (1 + entry_bytes * i + 4) 0) most_parameters (rw x at m), le-leb (get_or b (1 + entry_bytes * i + 5) 0) most_locals (rw y at n), q)
 
 pub turns_end : {count : ℕ} (b : List ℕ) (i at : ℕ) → count ≡ procedures b → count ≤ i → whole_turns b ≡ turns b i at → eqb at (length b) ≡ whole_turns b
 unfolding in_turn
@@ -88,21 +89,18 @@ unfolding contents
 contents_turns b e h n l q =
     q ∙ rw (le-leb 1 (procedures b) (omega arith), le-leb (procedures b) most_procedures (omega arith), le-leb (contents_end b) (length b) (omega arith))
 
--- The parameter counts, gathered in an array.
-abbrev pub parameters_of : List ℕ → ℕ → ℕ
-parameters_of b i = get_or b (1 + entry_bytes * i + 4) 0
-
-pub arities_more : (b l : List ℕ) (i n : ℕ) → length l ≡ most_procedures → i < n → n ≤ most_procedures → take i l ≡ each i (parameters_of b) → take (i + 1) (set l i (parameters_of b i)) ≡ each (i + 1) (parameters_of b)
-unfolding each
-arities_more b l i n q h m e = rw (add-one i, take-suc-set l i (parameters_of b i) (omega arith), e)
-
+-- The parameter counts.
 map_each : {A B : Type 0} (f : A → B) (g : ℕ → A) (n : ℕ) → map f (each n g) ≡ each n (λ i. f (g i))
 unfolding each
 map_each f g zero = refl
 map_each f g (suc n) = rw (map-append f (each n g) (g n ∷ []), map_each f g n)
 
-pub arities_all : {count : ℕ} (b l : List ℕ) (i : ℕ) → count ≡ procedures b → i ≤ count → count ≤ i → take i l ≡ each i (parameters_of b) → take count l ≡ arities (entries b)
+arities_each : (b : List ℕ) → arities (entries b) ≡ each (procedures b) (λ i. (entry b i).parameters)
 unfolding arities entries
-arities_all {count} b l i e n m h =
-    let q : i ≡ count = omega arith in
-    rw (← q) (h ∙ sym (map_each (λ e. e.parameters) (entry b) i) ∙ rw (q ∙ e) refl)
+arities_each b = map_each (λ e. e.parameters) (entry b) (procedures b)
+
+pub arities_length : (b : List ℕ) → length (arities (entries b)) ≡ procedures b
+arities_length b = rw (arities_each b) (length_each (procedures b) (λ i. (entry b i).parameters))
+
+pub arity : (b : List ℕ) (p : ℕ) → p < procedures b → get_or (arities (entries b)) p 0 ≡ (entry b p).parameters
+arity b p h = rw (arities_each b) (get_or_each (procedures b) (λ i. (entry b i).parameters) p 0 h)

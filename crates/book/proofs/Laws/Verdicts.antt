@@ -12,12 +12,8 @@ use Rattle.meaning.specs.Tree.{Cmd, Run, Closing, Book, assign, branch, loop, st
 use Rattle.meaning.specs.Reading.{Parsed, got, bad, Entry, entry, entries, procedures, arities, contents, body_of, bodies, loops_all, placed_all, few_loops, whole_bodies, readable, refused, read}
 use Rattle.meaning.specs.Flow.{row_limits, limits, size}
 use Rattle.meaning.proofs.Lists.{length_each}
-use Rattle.book.specs.declared.bodies.Counted.{Counted}
-use Rattle.book.specs.declared.bodies.Counted.TheVariants.{Sets, Fault}
-use Rattle.book.specs.declared.verdict.Verdict.{Verdict}
-use Rattle.book.specs.declared.verdict.Verdict.TheVariants.{Readable, Refused}
-use Rattle.book.specs.Counted.{sets_all, counted, counted_of}
-use Rattle.book.specs.Verdict.{verdict_of, bodies_verdict}
+use Rattle.book.specs.Counted.{Sets, Fault, sets_all, counted, counted_of}
+use Rattle.book.specs.Verdict.{Verdict, Readable, Refused, verdict_of, bodies_verdict}
 
 -- Numbering the loops changes no count.
 mutual
@@ -106,26 +102,26 @@ unfolding read
 judged_bodies b h l q w e = rw (long_enough b h l, read, sym q ∙ w) e
 
 -- The bodies and the loops.
-module _ {t : Counted} (b : List ℕ) (e : t ≡ counted_of b) where
-  pub judged_fault : {r p : ℕ} → t ≡ Fault r p → Refused 3 r p ≡ bodies_verdict b
+module _ (b : List ℕ) where
+  pub judged_fault : {r p : ℕ} → Fault r p ≡ counted_of b → Refused 3 r p ≡ bodies_verdict b
   unfolding whole_bodies verdict_of counted
-  judged_fault {r} {p} f = go (bodies b (arities (entries b)) (entries b)) (sym e ∙ f)
+  judged_fault {r} {p} e = go (bodies b (arities (entries b)) (entries b)) (sym e)
     where
       go : (s : Parsed Book) → counted s ≡ Fault r p → Refused 3 r p ≡ verdict_of (whole_bodies s)
       go (got qs n) d = let z : ◌≡◌ {A = ℕ} 0 1 = cc in absurd (omega arith)
       go (bad r' p') d = cc
 
-  pub judged_loops : {r : Verdict} {m k : ℕ} → t ≡ Sets m k → most_loops < m → r ≡ Refused 4 0 0 → r ≡ bodies_verdict b
+  pub judged_loops : {r : Verdict} {m k : ℕ} → Sets m k ≡ counted_of b → most_loops < m → r ≡ Refused 4 0 0 → r ≡ bodies_verdict b
   unfolding whole_bodies verdict_of counted
-  judged_loops {r} {m} {k} f n d = go (bodies b (arities (entries b)) (entries b)) (sym e ∙ f)
+  judged_loops {r} {m} {k} e n d = go (bodies b (arities (entries b)) (entries b)) (sym e)
     where
       go : (s : Parsed Book) → counted s ≡ Sets m k → r ≡ verdict_of (whole_bodies s)
       go (got qs i) c = let o : m ≡ loops_all qs = cc in rw (many qs (omega arith)) d
       go (bad r p) c = let z : ◌≡◌ {A = ℕ} 0 1 = cc in absurd (omega arith)
 
-  pub judged_size : {count m k : ℕ} → count ≡ procedures b → t ≡ Sets m k → m ≤ most_loops → Readable (count + k) ≡ bodies_verdict b
+  pub judged_size : {count m k : ℕ} → count ≡ procedures b → Sets m k ≡ counted_of b → m ≤ most_loops → Readable (count + k) ≡ bodies_verdict b
   unfolding whole_bodies verdict_of counted entries
-  judged_size {count} {m} {k} c f n = go (bodies b (arities (entries b)) (entries b)) refl (sym e ∙ f)
+  judged_size {count} {m} {k} c e n = go (bodies b (arities (entries b)) (entries b)) refl (sym e)
     where
       go : (s : Parsed Book) → bodies b (arities (entries b)) (entries b) ≡ s → counted s ≡ Sets m k → Readable (count + k) ≡ verdict_of (whole_bodies s)
       go (got qs i) y o =

@@ -1,9 +1,9 @@
 -- A refused book, or what the summary of a readable one is answered.
-use Rattle.flow.proofs.Answers.{sized_here, check_refused}
+use Rattle.std.proofs.lemmas.Result.{err_from_is_err_and}
+use Rattle.flow.proofs.Answers.{check_refused}
 use Rattle.flow.proofs.check.Goals as goal
 
-pub returns-then-answer-ne0 : goal.returns-then-answer-ne0
-returns-then-answer-ne0 c = search check_refused
-
-pub check_readable-requires : goal.check_readable-requires
-check_readable-requires c = search sized_here
+pub returns-in_err-read : goal.returns-in_err-read
+returns-in_err-read c =
+    let p = err_from_is_err_and c.from_residual.result c.from_residual.ensures.1 in
+    rw (p.1, p.2) (check_refused _ c.in_err-read.ensures.answer)

@@ -2,8 +2,8 @@
 use Rattle.flow.proofs.Answers.{check_unsized, settle_pre, check_good, check_bad}
 use Rattle.flow.proofs.check_readable.Goals as goal
 
-pub returns-then-summary-size : goal.returns-then-summary-size
-returns-then-summary-size c = search check_unsized
+pub returns-then-summary-book : goal.returns-then-summary-book
+returns-then-summary-book c = search check_unsized
 
 pub satisfied-requires : goal.satisfied-requires
 satisfied-requires c = search settle_pre

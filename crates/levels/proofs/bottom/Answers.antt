@@ -1,14 +1,18 @@
--- What is found is the bottom level among those passed.
-use native.Mathlib.Omega.{arith}
-use Rattle.levels.proofs.Found.{bottom_none, bottom_here, bottom_not_here, bottom_all}
+-- Of the levels in turn, the last that is bottom.
+use mathlib.Core.Path.{◌∙◌}
+use mathlib.Core.Bool.{cond}
+use Rattle.std.proofs.Common.{rules, tests}
+use Rattle.std.proofs.lemmas.Iterator.{YieldsList-from_range}
+use Rattle.std.proofs.lemmas.Iterator.Consumers.{fold_from_yields_List}
+use Rattle.meaning.specs.Levels.{is_bottom, bottom}
+use Rattle.levels.proofs.Laws.{fold_below}
 use Rattle.levels.proofs.bottom.Goals as goal
-use Rattle.levels.proofs.bottom.Goals.{else-is_bottom, then-is_bottom}
-
-pub loop-a-init : goal.loop-a-init
-loop-a-init c = (omega arith, search bottom_none)
-
-pub loop-a-preserved : goal.loop-a-preserved
-loop-a-preserved c = (omega arith, elim c.if-is_bottom.branch [ then-is_bottom w ↦ search bottom_here | else-is_bottom w ↦ search bottom_not_here ])
 
 pub returns : goal.returns
-returns c = search bottom_all
+unfolding bottom
+returns c =
+    let t = c.args.table.now in
+    let n = c.count.result in
+    fold_from_yields_List _ (λ found a. cond (is_bottom t a) a found) _ _ c.fold.ensures.ran (YieldsList-from_range 0 n n (search rules) (search rules))
+    (λ found a b q k. search (rules, tests))
+    ∙ fold_below (λ a found. cond (is_bottom t a) a found) 0 n ∙ rw c.count.ensures

@@ -1,16 +1,16 @@
--- The level is at or below each level passed.
-use native.Mathlib.Omega.{arith}
-use Rattle.levels.proofs.Upto.{below_none, below_more, all_below, one_not_below}
+-- Every level is tried.
+use mathlib.Core.Path.{◌∙◌}
+use Rattle.std.proofs.Common.{rules, tests}
+use Rattle.std.proofs.lemmas.Iterator.{YieldsList-from_range}
+use Rattle.std.proofs.lemmas.Iterator.Search.{all_from_yields_List}
+use Rattle.meaning.specs.Levels.{is_bottom, at_or_below}
+use Rattle.levels.proofs.Laws.{all_every}
 use Rattle.levels.proofs.is_bottom.Goals as goal
 
-pub loop-b-init : goal.loop-b-init
-loop-b-init c = (omega arith, search below_none)
-
-pub returns-then-not-at_or_below : goal.returns-then-not-at_or_below
-returns-then-not-at_or_below c = search one_not_below
-
-pub loop-b-preserved : goal.loop-b-preserved
-loop-b-preserved c = (omega arith, search below_more)
-
 pub returns : goal.returns
-returns c = search all_below
+unfolding is_bottom at_or_below
+returns c =
+    let test = at_or_below c.args.table.now c.args.a in
+    all_from_yields_List test _ _ _ c.all.ensures.ran (YieldsList-from_range 0 c.count.result c.count.result (search rules) (search rules))
+    (λ x b q k. search (rules, tests))
+    ∙ all_every test c.count.result ∙ rw c.count.ensures

@@ -6,32 +6,31 @@ use Rattle.levels.proofs.Upto.{triples_none, triples_more, pairs_none, pairs_mor
 use Rattle.levels.proofs.Upto.{one_not_repeats, one_not_stays, one_not_commutes, one_not_associates}
 use Rattle.levels.proofs.lawful.Goals as goal
 
-pub laws-init : goal.laws-init
-laws-init c = (search rules, search rules, search laws_none)
+pub loop-a-init : goal.loop-a-init
+loop-a-init c = (search rules, search laws_none)
 
 pub loop-b-init : goal.loop-b-init
-loop-b-init c = (search rules, search rules, search pairs_none)
+loop-b-init c = (search rules, search pairs_none)
 
 pub loop-c-init : goal.loop-c-init
-loop-c-init c = (search rules, search rules, search triples_none)
+loop-c-init c = (search rules, search triples_none)
 
 pub loop-c-preserved : goal.loop-c-preserved
 loop-c-preserved c =
-    (search rules, omega arith, triples_more _ _ _ _ c.loop-c.invariant.2 c.associates.ensures (rw c.if-not-associates.false refl))
+    (omega arith, triples_more _ _ _ _ c.loop-c.invariant.1 c.associates.ensures (rw c.if-not-associates.false refl))
 
 pub loop-b-preserved : goal.loop-b-preserved
 loop-b-preserved c = (
-  search rules,
   omega arith,
-  pairs_more _ _ _ _ _ c.count-n.ensures c.loop-b.invariant.2 c.stays.ensures (rw c.if-not-stays.false refl)
-      c.commutes.ensures (rw c.if-not-commutes.false refl) c.loop-c.invariant.1 c.loop-c-test.false c.loop-c.invariant.2,
+  pairs_more _ _ _ _ _ c.count-n.ensures c.loop-b.invariant.1 c.stays.ensures (rw c.if-not-stays.false refl)
+      c.commutes.ensures (rw c.if-not-commutes.false refl) c.loop-c.invariant.0 c.loop-c-test.false c.loop-c.invariant.1,
 )
 
-pub laws-preserved : goal.laws-preserved
-laws-preserved c = (search rules, omega arith, search laws_more)
+pub loop-a-preserved : goal.loop-a-preserved
+loop-a-preserved c = (omega arith, search laws_more)
 
-pub returns-after-laws : goal.returns-after-laws
-returns-after-laws c = search laws_all
+pub returns-after-loop-a : goal.returns-after-loop-a
+returns-after-loop-a c = search laws_all
 
 pub returns-then-not-repeats : goal.returns-then-not-repeats
 returns-then-not-repeats c = search one_not_repeats

@@ -1,20 +1,13 @@
--- Each way out goes by the number of levels.
-use native.Mathlib.Omega.{arith}
-use Rattle.levels.proofs.Laws.{bytes_product}
-use Rattle.levels.proofs.Tests.{no_levels, many_levels, some_levels}
+-- The number of levels is in the range, or not.
+use Rattle.std.proofs.Common.{rules}
+use Rattle.levels.proofs.Tests.{in_range, out_of_range}
 use Rattle.levels.proofs.shaped.Goals as goal
 
-pub returns-then-n-lt1 : goal.returns-then-n-lt1
-returns-then-n-lt1 c = search no_levels
+pub returns-then-contains : goal.returns-then-contains
+returns-then-contains c =
+    in_range _ _ (search rules) (rw (c.new.ensures.exhausted, c.new.ensures.start, c.new.ensures.end) at c.contains.ensures.value) c.if-contains.true
 
-pub returns-then-n-gt16 : goal.returns-then-n-gt16
-returns-then-n-gt16 c = search many_levels
-
-pub overflow_mul-result : goal.overflow_mul-result
-overflow_mul-result c = omega (arith, (bytes_product c.count-n.result c.count-n.result (omega arith) (omega arith)))
-
-pub overflow_add-result : goal.overflow_add-result
-overflow_add-result c = omega (arith, (bytes_product c.count-n.result c.count-n.result (omega arith) (omega arith)))
-
-pub returns : goal.returns
-returns c = search some_levels
+pub returns-else-contains : goal.returns-else-contains
+returns-else-contains c =
+    out_of_range c.args.table.now c.from-n.result (search rules)
+    (rw (c.new.ensures.exhausted, c.new.ensures.start, c.new.ensures.end) at c.contains.ensures.value) c.if-contains.false

@@ -1,16 +1,16 @@
--- The levels passed are below n.
-use native.Mathlib.Omega.{arith}
-use Rattle.reporter.proofs.AllBelow.{below_none, below_more, below_all, one_not_below}
+-- Every level is tried.
+use mathlib.Core.Path.{◌∙◌}
+use lib.Dec.{ltb}
+use Rattle.std.proofs.Common.{rules, tests}
+use Rattle.std.proofs.lemmas.Iterator.{YieldsList-from_slice}
+use Rattle.std.proofs.lemmas.Iterator.Search.{all_from_yields_List}
+use Rattle.reporter.specs.Parts.{all_below}
+use Rattle.reporter.proofs.AllBelow.{all_every}
 use Rattle.reporter.proofs.below.Goals as goal
 
-pub loop-i-init : goal.loop-i-init
-loop-i-init c = (omega arith, search below_none)
-
-pub returns-then-n-levels : goal.returns-then-n-levels
-returns-then-n-levels c = search one_not_below
-
-pub loop-i-preserved : goal.loop-i-preserved
-loop-i-preserved c = (omega arith, search below_more)
-
 pub returns : goal.returns
-returns c = search below_all
+unfolding all_below
+returns c =
+    let ls = c.args.levels.now in
+    all_from_yields_List (λ l. ltb l c.count-n.result) _ _ _ c.all.ensures.ran (YieldsList-from_slice ls cc) (λ x b q k. search (rules, tests))
+    ∙ all_every (λ l. ltb l c.count-n.result) ls ∙ rw c.count-n.ensures

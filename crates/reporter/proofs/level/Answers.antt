@@ -1,11 +1,12 @@
 -- A refused book, or what is asked of a readable one.
-use Rattle.book.proofs.Answer.{rejected}
-use Rattle.flow.proofs.Answers.{sized_here}
+use Rattle.std.proofs.lemmas.Result.{err_from_is_err_and}
 use Rattle.reporter.proofs.Ways.{book_refused}
 use Rattle.reporter.proofs.level.Goals as goal
 
-pub returns-then-answer-ne0 : goal.returns-then-answer-ne0
-returns-then-answer-ne0 c = search (book_refused, rejected)
+pub returns-in_err-read : goal.returns-in_err-read
+returns-in_err-read c =
+    let p = err_from_is_err_and c.from_residual.result c.from_residual.ensures.1 in
+    rw (p.1, p.2) (book_refused _ _ _ _ _ _ c.in_err-read.ensures.answer)
 
-pub level_readable-requires : goal.level_readable-requires
-level_readable-requires c = search sized_here
+pub returns : goal.returns
+returns c = rw (c.in_ok-read.ensures.bytes) at c.level_readable.ensures

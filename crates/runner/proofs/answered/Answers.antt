@@ -1,12 +1,6 @@
--- The three endings of an answer.
-use Rattle.runner.proofs.Answers.{finished_answer, spent_answer, deep_answer}
+-- A run that has finished.
+use Rattle.runner.proofs.Answers.{finished_answer}
 use Rattle.runner.proofs.answered.Goals as goal
 
-pub returns-then-ending-eq0 : goal.returns-then-ending-eq0
-returns-then-ending-eq0 c = search finished_answer
-
-pub returns-then-ending-eq4 : goal.returns-then-ending-eq4
-returns-then-ending-eq4 c = search spent_answer
-
-pub returns : goal.returns
-returns c = search deep_answer
+pub returns-in-Ok : goal.returns-in-Ok
+returns-in-Ok c = rw (c.in-Ok.is, c.from.ensures) (finished_answer c.in-Ok.went.goes c.left.ensures c.value.ensures)

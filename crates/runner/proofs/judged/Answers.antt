@@ -14,11 +14,11 @@ parameters-requires c = search within
 pub returns-then-inputs-parameters : goal.returns-then-inputs-parameters
 returns-then-inputs-parameters c = search miscounted
 
-pub returns-then-cells-lt1024 : goal.returns-then-cells-lt1024
-returns-then-cells-lt1024 c = search cramped
+pub returns-then-cells-lt-LEAST_CELLS : goal.returns-then-cells-lt-LEAST_CELLS
+returns-then-cells-lt-LEAST_CELLS c = search cramped
 
-pub returns-then-budget-gt1000000 : goal.returns-then-budget-gt1000000
-returns-then-budget-gt1000000 c = search over_budget
+pub returns-then-budget-gt-MOST_STEPS : goal.returns-then-budget-gt-MOST_STEPS
+returns-then-budget-gt-MOST_STEPS c = search over_budget
 
 pub returns : goal.returns
 returns c = search allowed

@@ -1,9 +1,12 @@
 -- A book that is refused, and one that is readable.
-use Rattle.runner.proofs.Answers.{read_refused, read_accepted}
+use Rattle.std.proofs.lemmas.Result.{err_from_is_err_and}
+use Rattle.runner.proofs.Answers.{read_refused}
 use Rattle.runner.proofs.run.Goals as goal
 
-pub returns-then-a-ne0 : goal.returns-then-a-ne0
-returns-then-a-ne0 c = search read_refused
+pub returns-in_err-read : goal.returns-in_err-read
+returns-in_err-read c =
+    let p = err_from_is_err_and c.from_residual.result c.from_residual.ensures.1 in
+    rw (p.1, p.2) (read_refused _ c.in_err-read.ensures.answer)
 
-pub run_readable-requires : goal.run_readable-requires
-run_readable-requires c = search read_accepted
+pub returns : goal.returns
+returns c = rw (c.in_ok-read.ensures.bytes) at c.run_readable.ensures

@@ -2,5 +2,5 @@
 use Rattle.audit.proofs.Digits.{Upto}
 use Rattle.audit.proofs.decimal.parse.Given as goal
 
-abbrev pub invariant-loop-i : goal.invariant-loop-i
-invariant-loop-i l = Upto l.text l.i l.value
+abbrev pub invariant-loop-b : goal.invariant-loop-b
+invariant-loop-b l = Upto l.text l.b-index l.value

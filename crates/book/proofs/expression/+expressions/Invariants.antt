@@ -1,17 +1,16 @@
 -- An expression, its operation or call, and the arguments read each other with less depth.
 use mathlib.Core.Path.{◌≡◌}
-use Prim.Native.Nat.{◌≤◌}
+use Prim.Native.Nat.{◌≤◌, ◌-◌}
 use lib.ListN.{length}
-use Rattle.book.specs.Parts.{naming, arguments_taken}
+use Rattle.book.specs.Parts.{known, arguments_taken}
 use Rattle.book.proofs.Laws.Expressions.{args_left}
 use Prim.Native.Nat.{◌+◌, ◌*◌}
 use Rattle.book.proofs.expression.+expressions.Given as goal
 
-abbrev pub invariant-arguments-loop-left : goal.invariant-arguments-loop-left
-invariant-arguments-loop-left l = (l.at ≤ length l.part) × (arguments_taken l.count (naming l.variables l.arities) l.depth l.part ≡ args_left l.left (naming l.variables l.arities) l.depth l.part l.at)
-
-abbrev pub decreases-arguments-loop-left : goal.decreases-arguments-loop-left
-decreases-arguments-loop-left l = l.left
+abbrev pub invariant-arguments-loop : goal.invariant-arguments-loop
+invariant-arguments-loop l =
+    (l.read.bytes ≤ length l.part) × (l.read.loops ≡ 0)
+    × (arguments_taken l.count (known l.scope) l.depth l.part ≡ args_left (l.count - l.counter) (known l.scope) l.depth l.part l.read.bytes)
 
 abbrev pub decreases-arguments : goal.decreases-arguments
 decreases-arguments l = 3 * l.depth + 1

@@ -1,9 +1,6 @@
-use Prim.Native.Nat.{◌-◌}
+use Rattle.std.specs.Slice.Iter.{windows_size, windows_rest}
 use Rattle.flow.proofs.Scans.{Hearing}
 use Rattle.flow.proofs.called.behind.Given as goal
 
-abbrev pub invariant-loop-i : goal.invariant-loop-i
-invariant-loop-i l = Hearing l.book l.at l.end l.i l.mask
-
-abbrev pub decreases-loop-i : goal.decreases-loop-i
-decreases-loop-i l = l.end - l.i
+abbrev pub invariant-loop-w : goal.invariant-loop-w
+invariant-loop-w l = Hearing l.body (windows_size l.w-iterator) (windows_rest l.w-iterator) l.mask

@@ -1,6 +1,6 @@
 -- After n rounds `old` is the array before the last of them and `new` the array after it.
 use native.Mathlib.Omega.{arith}
-use Rattle.flow.proofs.Settles.{sized_small, settling_first, settling_wake, settling_pass, settling_next, settling_last, settling_out}
+use Rattle.flow.proofs.Settles.{sized_small, settling_first, settling_next, settling_last, settling_out}
 use Rattle.flow.proofs.settle.later.Goals as goal
 
 pub overflow_mul-most : goal.overflow_mul-most
@@ -11,15 +11,6 @@ overflow_add-most c = omega (arith, sized_small)
 
 pub loop-n-init : goal.loop-n-init
 loop-n-init c = search settling_first
-
-pub wake-walks-requires : goal.wake-walks-requires
-wake-walks-requires c = search settling_wake
-
-pub pass-requires : goal.pass-requires
-pass-requires c = search settling_pass
-
-pub overflow_add-n : goal.overflow_add-n
-overflow_add-n c = omega (arith, sized_small)
 
 pub same-requires : goal.same-requires
 same-requires c = search sized_small

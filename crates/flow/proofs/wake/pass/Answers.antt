@@ -1,10 +1,10 @@
 use Rattle.flow.proofs.Numbers.{some_bytes}
 use Rattle.flow.proofs.Passes.{skimming_none, skimming_pre, skimming_walk, skimming_skip, skimming_done}
 use Rattle.flow.proofs.wake.pass.Goals as goal
-use Rattle.flow.proofs.wake.pass.Goals.{else-walks-p-eq1, then-walks-p-eq1}
+use Rattle.flow.proofs.wake.pass.Goals.{else-walks-p, then-walks-p}
 
 pub loop-p-preserved : goal.loop-p-preserved
-loop-p-preserved c = elim c.if-walks-p-eq1.branch [ then-walks-p-eq1 w ↦ search skimming_walk | else-walks-p-eq1 w ↦ search skimming_skip ]
+loop-p-preserved c = elim c.if-walks-p.branch [ then-walks-p w ↦ search skimming_walk | else-walks-p w ↦ search skimming_skip ]
 
 pub bounds-book-0 : goal.bounds-book-0
 bounds-book-0 c = search some_bytes

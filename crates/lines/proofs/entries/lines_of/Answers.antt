@@ -1,24 +1,30 @@
--- `lines::entries::lines_of` meets its contract: after p turns the first p lines are there.
+-- After p turns the first p lines are there.
 use native.Mathlib.Omega.{arith}
 use borrow.Author.Rules.{rules}
-use Rattle.book.proofs.Sound.{book_facts}
-use Rattle.lines.proofs.Shown.{shown_none, shown_more, shown_all}
+use Rattle.meaning.specs.Sets.{empty}
+use Rattle.meaning.specs.Flow.{at}
+use Rattle.lines.proofs.Shown.{shown_more, shown_all, first_there, entry_there, line_fits}
 use Rattle.lines.proofs.entries.lines_of.Goals as goal
 
-pub bounds-book-0 : goal.bounds-book-0
-bounds-book-0 c = omega (arith, (book_facts c.requires.here).some_bytes)
+pub bounds-bytes-0 : goal.bounds-bytes-0
+bounds-bytes-0 c = first_there c.args.book.answer
 
-pub loop-p-init : goal.loop-p-init
-loop-p-init c = (search rules, search rules, shown_none c.new-text.ensures)
+pub parameters-requires : goal.parameters-requires
+parameters-requires c = entry_there c.args.book.answer (omega arith)
 
-pub entry_line-text-requires : goal.entry_line-text-requires
-entry_line-text-requires c = record { listable = c.requires; known = search rules; space = omega (arith, c.loop-p.invariant.2.short, (book_facts c.requires.here).few) }
+pub locals-requires : goal.locals-requires
+locals-requires c = entry_there c.args.book.answer (omega arith)
 
-pub overflow_step-p : goal.overflow_step-p
-overflow_step-p c = omega (arith, (book_facts c.requires.here).few)
+pub line-requires-clause-space : goal.line-requires-clause-space
+line-requires-clause-space c = line_fits c.args.book.answer (omega arith) c.loop-p.invariant.2
 
 pub loop-p-preserved : goal.loop-p-preserved
-loop-p-preserved c = (search rules, search rules, shown_more (search rules) c.loop-p.invariant.2 c.entry_line-text.ensures)
+unfolding at empty
+loop-p-preserved c = (
+  search rules,
+  omega arith,
+  shown_more (omega arith) c.parameters.ensures c.locals.ensures c.from-set.ensures (search rules) c.loop-p.invariant.2 c.line.ensures,
+)
 
 pub returns : goal.returns
-returns c = shown_all (search rules) c.loop-p.invariant.2
+returns c = shown_all (omega arith) c.loop-p.invariant.2

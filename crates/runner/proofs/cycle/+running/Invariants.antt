@@ -12,11 +12,11 @@ use Rattle.std.proofs.Common.{◌≡◌, length}
 use Rattle.runner.proofs.Turns.{Turning}
 use Rattle.runner.proofs.cycle.+running.Given as goal
 
-abbrev pub invariant-acts-loop-at : goal.invariant-acts-loop-at
-invariant-acts-loop-at l = Going l.book l.initial.jumps l.fn.at l.frame l.fn.left l.initial.work l.jumps l.at l.left l.work × (length l.jumps ≡ length l.initial.jumps)
+abbrev pub invariant-acts-loop-frame : goal.invariant-acts-loop-frame
+invariant-acts-loop-frame l = Going l.book l.initial.jumps l.fn.at l.frame l.fn.left l.initial.work l.jumps l.at l.left l.work × (length l.jumps ≡ length l.initial.jumps)
 
-abbrev pub decreases-acts-loop-at : goal.decreases-acts-loop-at
-decreases-acts-loop-at l = length l.book - l.at
+abbrev pub decreases-acts-loop-frame : goal.decreases-acts-loop-frame
+decreases-acts-loop-frame l = length l.book - l.at
 
 abbrev pub invariant-finish-loop-jumps : goal.invariant-finish-loop-jumps
 invariant-finish-loop-jumps l = Closing-on l.book l.initial.jumps l.fn.at l.frame l.fn.left l.initial.work l.jumps l.at l.left l.work × (length l.jumps ≡ length l.initial.jumps)
@@ -70,7 +70,7 @@ abbrev pub decreases-quick : goal.decreases-quick
 decreases-quick l = fall (depths l.frame) l.left (length l.book.now - l.at + 1)
 
 abbrev pub decreases-right : goal.decreases-right
-decreases-right l = fall (depths l.frame) (answer_of l.a).left (length l.book.now - l.at + 1)
+decreases-right l = fall (depths l.frame) (answer_of l.a.packed).left (length l.book.now - l.at + 1)
 
 abbrev pub decreases-turns : goal.decreases-turns
 decreases-turns l = fall (depths l.frame) l.left (length l.book.now - l.at)

@@ -1,28 +1,16 @@
 -- A run's end, looked up, or found and kept.
-use Rattle.std.proofs.Common.{arith}
-use Rattle.runner.proofs.Memo.{run_there, run_row, run_found, run_small, jump_known}
+use Rattle.std.proofs.Common.{arith, of_calls}
+use Rattle.runner.proofs.Memo.{run_there, run_row, run_found, run_small, noted_end}
 use Rattle.runner.proofs.jumps.run_end.Goals as goal
 
-pub offset_bounds-jumps-at : goal.offset_bounds-jumps-at
-offset_bounds-jumps-at c = omega (arith, run_there)
+pub noted-requires-clause-there : goal.noted-requires-clause-there
+noted-requires-clause-there c = omega (arith, run_there)
 
-pub bounds-jumps-at : goal.bounds-jumps-at
-bounds-jumps-at c = omega (arith, run_there)
+pub noted-requires-clause-can : goal.noted-requires-clause-can
+noted-requires-clause-can c = search (of_calls, run_row)
 
-pub returns-then-known-ne0 : goal.returns-then-known-ne0
-returns-then-known-ne0 c = search jump_known
-
-pub runs-end-requires : goal.runs-end-requires
-runs-end-requires c = search run_row
-
-pub overflow_cast-jumps : goal.overflow_cast-jumps
-overflow_cast-jumps c = search (run_small, arith)
-
-pub offset_bounds-jumps-at-2 : goal.offset_bounds-jumps-at-2
-offset_bounds-jumps-at-2 c = omega (arith, run_there)
-
-pub bounds-jumps-at-2 : goal.bounds-jumps-at-2
-bounds-jumps-at-2 c = omega (arith, run_there)
+pub noted-requires-clause-small : goal.noted-requires-clause-small
+noted-requires-clause-small c = λ r q. run_small c.requires (search of_calls)
 
 pub returns : goal.returns
-returns c = search run_found
+returns c = noted_end c.requires.jumps c.noted.ensures (λ r q. run_found c.requires (search of_calls))

@@ -9,8 +9,8 @@ bounds-book-at c = search cmd_there
 pub overflow_add-at : goal.overflow_add-at
 overflow_add-at c = omega (arith, cmd_there, cmd_few)
 
-pub exprs-requires : goal.exprs-requires
-exprs-requires c = search assign_row
+pub row-requires : goal.row-requires
+row-requires c = search assign_row
 
 pub returns-then-k-eq1 : goal.returns-then-k-eq1
 returns-then-k-eq1 c = search assign_head
@@ -18,8 +18,8 @@ returns-then-k-eq1 c = search assign_head
 pub overflow_add-at-2 : goal.overflow_add-at-2
 overflow_add-at-2 c = omega (arith, cmd_there, cmd_few)
 
-pub exprs-next-requires : goal.exprs-next-requires
-exprs-next-requires c = search test_row
+pub row-next-requires : goal.row-next-requires
+row-next-requires c = search test_row
 
 pub returns-then-k-eq2 : goal.returns-then-k-eq2
 returns-then-k-eq2 c = search branch_head

@@ -1,13 +1,12 @@
--- `lines::text::Text::put_number` meets its contract.
-use borrow.Author.Rules.{rules}
-use Rattle.lines.proofs.Laws.{grown_one, grown_two, grown_three}
+-- The digits of a number of one, two and three.
+use Rattle.lines.proofs.Laws.{put_one, put_two, put_three}
 use Rattle.lines.proofs.text.Text.put_number.Goals as goal
 
-pub returns-then-n-lt10 : goal.returns-then-n-lt10
-returns-then-n-lt10 c = grown_one (search rules) c.put.ensures
+pub returns-then-n-lt10-clause-text : goal.returns-then-n-lt10-clause-text
+returns-then-n-lt10-clause-text c = search put_one
 
-pub returns-then-n-lt100 : goal.returns-then-n-lt100
-returns-then-n-lt100 c = grown_two (search rules) (search rules) c.put-then-n-lt100.ensures c.put-then-n-lt100-2.ensures
+pub returns-then-n-lt100-clause-text : goal.returns-then-n-lt100-clause-text
+returns-then-n-lt100-clause-text c = search put_two
 
-pub returns : goal.returns
-returns c = grown_three (search rules) (search rules) c.put-2.ensures c.put-3.ensures c.put-4.ensures
+pub returns-else-n-lt100-clause-text : goal.returns-else-n-lt100-clause-text
+returns-else-n-lt100-clause-text c = search put_three

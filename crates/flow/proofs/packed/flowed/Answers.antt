@@ -1,7 +1,0 @@
-use Rattle.flow.specs.Packed.{set_in, next_in}
-use native.Mathlib.Omega.{arith}
-use Rattle.flow.proofs.packed.flowed.Goals as goal
-
-pub returns : goal.returns
-unfolding set_in next_in
-returns c = record { set_is = omega arith; next_is = omega arith }

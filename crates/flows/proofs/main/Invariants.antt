@@ -1,0 +1,6 @@
+-- Each line takes something off the text.
+use Rattle.std.proofs.Common.{length}
+use Rattle.flows.proofs.main.Given as goal
+
+abbrev pub decreases-loop-rest : goal.decreases-loop-rest
+decreases-loop-rest l = length l.rest

@@ -1,6 +1,0 @@
--- Each line takes the place on.
-use Rattle.std.proofs.Common.{◌-◌, length}
-use Rattle.levelling.proofs.lines.Given as goal
-
-abbrev pub decreases-loop-at : goal.decreases-loop-at
-decreases-loop-at g l = length l.text - l.at

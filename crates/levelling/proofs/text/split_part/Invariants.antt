@@ -1,0 +1,6 @@
+-- At most one byte was written for each turn, and the text only gets shorter.
+use Rattle.std.proofs.Common.{◌≤◌, length}
+use Rattle.levelling.proofs.text.split_part.Given as goal
+
+abbrev pub invariant-loop-place : goal.invariant-loop-place
+invariant-loop-place l = (l.count ≤ l.place-index) × (length l.rest ≤ length l.text)

@@ -1,0 +1,8 @@
+-- The bits of the value.
+use Rattle.std.proofs.Common.{rules}
+use Rattle.runner.specs.Answer.{answer_of}
+use Rattle.runner.proofs.answer.Went.value.Goals as goal
+
+pub returns : goal.returns
+unfolding answer_of
+returns c = search rules

@@ -1,8 +1,0 @@
--- The bits above the value.
-use Rattle.std.proofs.Common.{rules}
-use Rattle.runner.specs.Answer.{answer_of}
-use Rattle.runner.proofs.answer.left_of.Goals as goal
-
-pub returns : goal.returns
-unfolding answer_of
-returns c = search rules

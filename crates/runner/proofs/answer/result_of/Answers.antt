@@ -1,8 +1,0 @@
--- The low 32 bits.
-use Rattle.std.proofs.Common.{rules}
-use Rattle.runner.specs.Answer.{answer_of}
-use Rattle.runner.proofs.answer.result_of.Goals as goal
-
-pub returns : goal.returns
-unfolding answer_of
-returns c = search rules

@@ -1,9 +1,0 @@
--- A memo of 8192 places.
-use Rattle.runner.proofs.Starts.{enter_pre, begun}
-use Rattle.runner.proofs.start.with_8192.Goals as goal
-
-pub enter-requires : goal.enter-requires
-enter-requires c = search enter_pre
-
-pub returns : goal.returns
-returns c = search begun
