@@ -37,6 +37,7 @@ fn last(part: &[u8], scope: &Scope, depth: usize) -> Result<Taken, Fault>
 }
 
 // 05 E C C.
+// With `command::branch` it shares three calls of `then` (kept: no plainer, as one function would take a closure back into either cycle).
 #[cycle(closings)]
 fn pick(part: &[u8], scope: &Scope, depth: usize) -> Result<Taken, Fault>
     requires { 1 ≤ length part.now }

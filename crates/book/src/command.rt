@@ -50,6 +50,7 @@ pub fn ordinary(part: &[u8], scope: &Scope, depth: usize) -> Result<Taken, Fault
 }
 
 // 02 E S 00 S 00, what is inside with `depth` levels left.
+// See `closing::pick`, of which it is the like for runs.
 #[cycle(commands)]
 fn branch(part: &[u8], scope: &Scope, depth: usize) -> Result<Taken, Fault>
     requires { 1 ≤ length part.now }

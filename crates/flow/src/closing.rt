@@ -45,6 +45,7 @@ fn give(walk: &Walk, new: &mut Places, at: usize, row: usize, sets: &Row, guard:
 }
 
 // Both closing sequences start from the same sets, with the condition's set in the guard.
+// `command::branch` joins the sets at its end, this keeps none (kept apart: no plainer, two lines are shared).
 #[cycle(closings)]
 fn pick(walk: &Walk, new: &mut Places, at: usize, row: usize, sets: &mut Row, guard: Bits) -> Place
     requires { ClosingCodedPre 0x05 (by walk.now) walk.now.p (standing at row new.old sets.old) }

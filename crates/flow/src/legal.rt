@@ -12,6 +12,7 @@ use book::entry::parameters;
 use sets::{Bits, Set};
 
 // The result set and the sets of the rows of each procedure name none but its parameters.
+// (A `for` left early. Kept: no plainer, since the closure of an `all` over the numbers has to show some ten bounds.)
 pub fn legal(book: &[u8], summary: &Places, starts: &[usize; STARTS]) -> bool
     requires { LegalPre book.now starts.now }
     ensures { LegalPost book.now summary.now result }

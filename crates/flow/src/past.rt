@@ -6,6 +6,7 @@ use book::codes::{CALL, CONSTANT, OPERATION};
 use book::entry::parameters;
 
 // Where the part after n expressions begins.
+// The runner's `row::<Expr>` does the same over its own relations (kept: no plainer, as these and their laws would have to move here).
 pub fn past(book: &[u8], at: usize, n: usize) -> usize
     requires { PastPre book.now n at }
     ensures { PastPost book.now n at result }

@@ -1,6 +1,8 @@
 // The cycle of the run: expressions, calls and command sequences call each other. Call depth left, steps left and
 // body bytes left, in this order, fall with each call. Where a part ends is asked of the memo (`jumps`); `frame` says how many
 // cells are the running call's variables, and how many call depths are left.
+// Codes are tested as the book's bytes, and `book`, `jumps` and `work` stand apart (kept: no plainer, as an enum or a lent struct
+// of them would put a test or a clause more into each member; docs/DESIGN-PASS.md, 1.21 and 5.9).
 ghost use Rattle.std.specs.Prelude.{suc};
 ghost use Rattle.runner.specs.Parts.{EvalPre, EvalPost, FormPre, RightPre, RightPost, ArgsPre, ArgsPost, EnterPre, EnterPost, BodyPre, BodyPost};
 ghost use Rattle.runner.specs.Step.{packed_of};
@@ -35,6 +37,7 @@ fn quick(
 }
 
 // The same: in place where it is a variable.
+// (Kept beside `quick`: no plainer, as with one of them conditions and arguments would make the tests of the other's forms first.)
 #[cycle(running)]
 fn lookup(
     book: &[u8],
@@ -138,6 +141,7 @@ fn call(
 }
 
 // The arguments of a call, left to right, gathered before the call is entered.
+// (The number of an argument is needed with its place. Kept: an iterator over the values is no plainer.)
 #[cycle(running)]
 fn gather(
     book: &[u8],

@@ -88,6 +88,7 @@ pub fn taken(book: &[u8], jumps: &mut [u16], at: usize, value: u32) -> usize
 }
 
 // The same for the sequence of a closing if.
+// (Kept apart from `taken`: no plainer, since the two share one call and name other parts.)
 pub fn picked(book: &[u8], jumps: &mut [u16], at: usize, value: u32) -> usize
     requires { JumpPre (SomePick book.now) book.now at jumps.old }
     ensures { PickedPost book.now at jumps.new value result }

@@ -11,6 +11,7 @@ use crate::limits::MOST_CALLS;
 use book::limits::{MOST_BYTES, MOST_PARAMETERS};
 
 // A run with a memo of N places. It is never inlined, so that a small book's run has only its small memo on the stack.
+// (`p` and `given` go together and are read in one place, `prepared`. Kept apart: a struct of them is no plainer.)
 #[inline(never)]
 fn with<const N: usize>(
     book: &[u8],
