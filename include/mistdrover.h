@@ -77,9 +77,9 @@ uint32_t md_read(const uint8_t *book, size_t book_len, uint64_t answer[8]);
  *                        not refused the first 1,024 cells are 0 and the others unchanged
  * Answer: [0] ending (MD_FINISHED, MD_OUT_OF_STEPS or MD_TOO_DEEP), [1] value (0 unless finished),
  *         [2] steps spent.
- * Stack: at most 222 KiB, with forms nested to depth 24 in each of 64 calls that are open at once,
- *         64 KiB of it for a book over 8,192 bytes. Measured on every kind of nesting, not proved. The
- *         other functions use 9 KiB.
+ * Stack: at most 284 KiB, with forms nested to depth 24 in each of 64 calls that are open at once,
+ *         64 KiB of it room that a book over 8,192 bytes takes; 222 KiB for the smallest books.
+ *         Measured on every kind of nesting, not proved. The other functions use 9 KiB.
  * Refusals: 1, 2, 3, 4, 6, 7, 10, 11.
  */
 uint32_t md_run(const uint8_t *book, size_t book_len, uint64_t procedure,

@@ -1,6 +1,9 @@
 // What is asked of a book, and its answer by a summary.
+ghost use Rattle.std.specs.Prelude.{IfOk};
+ghost use Rattle.audit.specs.Least.{Least};
+
 use crate::inputs::file_at;
-use crate::report::{say_inputs, say_picked, say_refused};
+use crate::report::{result_of, say_inputs, say_picked, say_refused};
 use book::Book;
 use book::limits::MOST_PLACES;
 use flow::{Found, find_readable};
@@ -55,7 +58,9 @@ impl Question<'_> {
     }
 
     // The least summary, the rounds in which it was found, and the level by it.
-    fn least<'b>(self, room: &'b mut [u8]) -> Result<(&'b [u8], usize, u8), Refusal> {
+    fn least<'b>(self, room: &'b mut [u8]) -> Result<(&'b [u8], usize, u8), Refusal>
+        ensures { IfOk result (λ r. Least self.entry.book.now self.entry.table.now self.entry.procedure self.entry.levels.now r.0.now r.1 r.2) }
+    {
         let book = Book::read(self.book)?;
         let Found { size, rounds } = find_readable(book, room)?;
         let summary = &room[..size];
@@ -71,8 +76,7 @@ impl Question<'_> {
             levels,
             ..
         } = self;
-        let place = usize::try_from(procedure).ok();
-        let set = place.and_then(|p| summary.get(p)).copied().unwrap_or(0);
+        let set = usize::try_from(procedure).map_or(0, |p| result_of(summary, p));
         say_inputs(rt, levels, set)?;
         println!(rt; "reported level: {level}")?;
         print!(rt; "inputs at or below that level, which may show in the answer:")?;

@@ -1,5 +1,5 @@
 // What the auditor is told.
-ghost use Rattle.std.specs.Prelude.{◌≡◌};
+ghost use Rattle.std.specs.Prelude.{◌≡◌, get_or};
 ghost use Rattle.meaning.specs.Sets.{member};
 
 use book::limits::MOST_PARAMETERS;
@@ -12,6 +12,13 @@ fn rests(set: u8, i: usize) -> bool
     ensures { result ≡ member i set }
 {
     i < MOST_PARAMETERS && Set::from(set).has(i)
+}
+
+// The result set of a procedure.
+pub fn result_of(summary: &[u8], procedure: usize) -> u8
+    ensures { result ≡ get_or summary.now procedure 0 }
+{
+    summary.get(procedure).copied().unwrap_or(0)
 }
 
 // One line for each input.

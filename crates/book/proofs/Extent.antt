@@ -222,6 +222,12 @@ run_count v d s e = (run_reach v d s e).counts
 ordinaries_reach : {t : Taken} (closed : Bool) (v : Scope) (d : ℕ) (s : List ℕ) → t ≡ ordinaries_taken closed v d s → Reach t (length s)
 ordinaries_reach closed v d s e = reach loops_in _ (length s) e (within_ordinaries closed v d (length s) s)
 
+pub ordinaries_span : {t : Taken} (closed : Bool) (v : Scope) (d : ℕ) (s : List ℕ) → t ≡ ordinaries_taken closed v d s → span t ≤ length s
+ordinaries_span closed v d s e = (ordinaries_reach closed v d s e).spans
+
+pub ordinaries_count : {t : Taken} (closed : Bool) (v : Scope) (d : ℕ) (s : List ℕ) → t ≡ ordinaries_taken closed v d s → loops_taken t ≤ length s
+ordinaries_count closed v d s e = (ordinaries_reach closed v d s e).counts
+
 -- Of m bytes, n that were read, with l loops.
 pub record Fits (n l m : ℕ) : Type 0 where
   pub bytes : n ≤ m

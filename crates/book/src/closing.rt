@@ -24,8 +24,10 @@ fn sequence(part: &[u8], scope: &Scope, depth: usize) -> Result<Taken, Fault>
     run.then(last(&part[run.bytes..], scope, depth - 1))
 }
 
-// 04 E or 05 E C C, what is inside with `depth` levels left.
+// 04 E or 05 E C C, what is inside with `depth` levels left. It is never inlined: within `sequence` its answers would be put
+// together byte by byte, on which a book of many short bodies waits.
 #[cycle(closings)]
+#[inline(never)]
 fn last(part: &[u8], scope: &Scope, depth: usize) -> Result<Taken, Fault>
     ensures { told result ≡ closer_taken (known scope.now) depth part.now }
 {

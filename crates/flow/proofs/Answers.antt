@@ -1,27 +1,31 @@
 -- What the checker and the finder answer, way by way through their tests.
-use mathlib.Core.Path.{◌≡◌, refl, ◌∙◌}
+use mathlib.Core.Path.{◌≡◌, refl, ap, ◌∙◌}
 use mathlib.Core.Bool.{Bool, true, false}
-use mathlib.Core.List.{List, ◌++◌}
+use mathlib.Core.List.{List, [], ◌++◌}
 use Prim.Native.Nat.{ℕ, ◌≤◌, ◌<◌}
 use native.Mathlib.Omega.{arith}
 use borrow.Author.Tests.{eq-eqb, ne_eqb, le-leb, lt-leb}
 use lib.Dec.{leb}
-use lib.ListN.{length, drop}
+use lib.ListN.{length, take, drop, replicate}
 use Rattle.meaning.specs.Reading.{Reading, refused, readable, read}
 use Rattle.meaning.specs.Flow.{size}
 use Rattle.meaning.specs.Answers.{check_answer, check_book, find_answer, find_book, no_find}
 use Rattle.meaning.specs.Entries.{Reads, Checks, FindsIn}
 use Rattle.meaning.proofs.Readable.{refused_number}
+use Rattle.std.specs.Prelude.{Result, ⊤}
+use Rattle.meaning.proofs.OneAnswer.{one_check, one_find}
 use Rattle.refusals.specs.declared.Refusal.{Refusal}
-use Rattle.refusals.specs.Numbers.{number}
+use Rattle.refusals.specs.Numbers.{refusal, field}
+use Rattle.refusals.proofs.OneNumber.{one_answer}
 use Rattle.book.proofs.Answer.{accepted, rejected}
+use Rattle.flow.specs.declared.Found.{Found}
 use Rattle.book.specs.Here.{Sized}
 use Rattle.flow.specs.Settling.{SettlePre, SettlePost, SatisfiedPost}
 
 -- The checker.
-pub check_refused : {b σ : List ℕ} (r : Refusal) {s : ℕ} → Reads b (number r) s → Checks b σ (number r)
+pub check_refused : {b σ : List ℕ} {k s : ℕ} → Reads b k s → (k ≡ 0 → ⊥) → Checks b σ k
 unfolding check_answer
-check_refused {b} {σ} r h = let x = rejected r h in record { refusal_is = rw (x.is, check_answer, x.number) }
+check_refused {b} {σ} h n = let x = rejected h n in record { refusal_is = x.number ∙ rw (x.is, check_answer) }
 
 module _ {b σ : List ℕ} {s : ℕ} (h : Reads b 0 s) where
   pub check_unsized : (length σ ≡ s → ⊥) → Checks b σ 8
@@ -51,16 +55,24 @@ module _ {b σ : List ℕ} {s : ℕ} (h : Reads b 0 s) where
     check_bad p e = tested p (rw e)
 
 -- The finder.
-pub find_refused : {b buffer : List ℕ} (r : Refusal) {s : ℕ} → Reads b (number r) s → FindsIn b buffer (number r) 0 0 buffer
+pub find_refused : {b buffer : List ℕ} {k s : ℕ} → Reads b k s → (k ≡ 0 → ⊥) → FindsIn b buffer k 0 0 buffer
 unfolding find_answer no_find
-find_refused {b} {buffer} r h =
-    let x = rejected r h in
+find_refused {b} {buffer} h n =
+    let x = rejected h n in
     record {
-      refusal_is = rw (x.is, find_answer, x.number);
+      refusal_is = x.number ∙ rw (x.is, find_answer);
       size_is = rw (x.is, find_answer);
       rounds_is = rw (x.is, find_answer);
       buffer_is = rw (x.is, find_answer);
     }
+
+-- A buffer that is the same is left the same.
+pub find_left : {b buffer w after : List ℕ} {k s n : ℕ} → FindsIn b w k s n after → w ≡ buffer → FindsIn b buffer k s n after
+find_left f e = rw e at f
+
+-- A buffer of which no byte is filled is the same.
+pub unfilled : (w : List ℕ) {y : List ℕ} (n : ℕ) → y ≡ replicate (length (take n w)) 0 → n ≡ 0 → y ++ drop n w ≡ w
+unfilled w {y} n e z = let q : y ≡ [] = rw z at e in rw (z, q) refl
 
 module _ {b buffer : List ℕ} {s : ℕ} (h : Reads b 0 s) where
   pub find_short : length buffer < s → FindsIn b buffer 8 0 0 buffer
@@ -104,3 +116,18 @@ found_here {b} {buffer} {after} {r} {s} f z = go (read b) refl
         fits : (t : Bool) → leb (size q) (length buffer) ≡ t → Sized b s
         fits true t = record { book = record { book = q; is = e }; size_is = f.size_is ∙ rw (e, find_answer, t, find_book) }
         fits false t = let w = rw (e, find_answer, t, find_book) at f.refusal_is in absurd (omega arith)
+
+-- As `one_check` and `one_find` have it of the numbers, of the answers themselves.
+pub one_check_answer : {b σ : List ℕ} (r s : Result ⊤ Refusal) → Checks b σ (refusal r) → Checks b σ (refusal s) → r ≡ s
+one_check_answer r s x y = one_answer r s (one_check x y) (λ a b p q. refl)
+
+one_found : (a b : Found) → a.size ≡ b.size → a.rounds ≡ b.rounds → a ≡ b
+one_found a b s n = ap (λ k. record { size = k; rounds = a.rounds }) s ∙ ap (λ k. record { size = b.size; rounds = k }) n
+
+pub one_find_answer : {b buffer w w' : List ℕ} (r s : Result Found Refusal) →
+    FindsIn b buffer (refusal r) (field (λ f. f.size) r) (field (λ f. f.rounds) r) w →
+    FindsIn b buffer (refusal s) (field (λ f. f.size) s) (field (λ f. f.rounds) s) w' →
+    (r ≡ s) × (w ≡ w')
+one_find_answer r s x y =
+    let o = one_find x y in
+    (one_answer r s o.0 (λ a b p q. one_found a b (rw (p, q) at o.1) (rw (p, q) at o.2)), o.3)

@@ -63,3 +63,8 @@ same_fronts {s} {t} {n} {r} f g e =
       equal = λ q k h. sym (get_or-take n s k 0 h) ∙ ap (λ (l : List ℕ). get_or l k 0) (d.0 q) ∙ get_or-take n t k 0 h;
       unequal = λ q h. let y = d.1 (fronts_agree s t f g h) in let z : ◌≡◌ {A = ℕ} 0 1 = cc in absurd (omega arith);
     }
+
+-- From place 0 on, fronts are compared whole.
+pub from_start : (s t : List ℕ) (n : ℕ) (m : ℕ) {r : Bool} → r ≡ pointwise eqb (take (n - m) (drop m s)) (take (n - m) (drop m t)) → m ≡ 0 →
+    r ≡ pointwise eqb (take n s) (take n t)
+from_start s t n m e z = let d : n - m ≡ n = omega (arith, z) in rw (d, z) at e

@@ -23,10 +23,9 @@ use Rattle.book.proofs.Answer.{accepted, rejected}
 use Rattle.lines.specs.Listed.{Listed}
 
 -- What the listing of a refused book says.
-pub refused_says : {book : List ℕ} (r : Refusal) {s : ℕ} → Reads book (number r) s →
-    listing book ≡ refused_text ++ (decimal (number r) ++ (10 ∷ []))
+pub refused_says : {book : List ℕ} {r s : ℕ} → Reads book r s → (r ≡ 0 → ⊥) → listing book ≡ refused_text ++ (decimal r ++ (10 ∷ []))
 unfolding listing
-refused_says r h = let w = rejected r h in rw (w.is, listing, w.number)
+refused_says h n = let w = rejected h n in rw (w.is, listing, ← w.number)
 
 module _ {book : List ℕ} {s : ℕ} (h : Reads book 0 s) where
   here : BookHere book

@@ -5,6 +5,7 @@ use mathlib.Core.List.{List, [], ◌∷◌, ◌++◌, append_assoc}
 use Prim.Native.Nat.{ℕ, suc, ◌+◌, ◌-◌, ◌/◌, ◌%◌, ◌<◌, ◌≤◌}
 use native.Mathlib.Omega.{arith}
 use lib.ListN.{length, take, drop, replicate, length-append, length-replicate}
+use lib.Seq.{take_at}
 use borrow.Rule.Slice.PartMut.{put_mid}
 use Rattle.std.proofs.lemmas.List.{drop_at, drop-replicate}
 use Rattle.std.proofs.lemmas.Slice.{take-put_mid}
@@ -51,6 +52,10 @@ pub one_text : {t bytes bytes' : List ℕ} {len len' : ℕ} → Says t bytes len
 one_text s r =
     let same = s.len_is ∙ sym r.len_is in
     (s.bytes_is ∙ (rw same (sym r.bytes_is)), same)
+
+-- What is printed: the bytes of the array up to the length.
+pub says_text : {t bytes : List ℕ} {len : ℕ} → Says t bytes len → take len bytes ≡ t
+says_text {t} {len = len} s = rw s.bytes_is (take_at t (replicate (room - len) 0) len (sym s.len_is))
 
 -- What a clause sees of a text is said by its array and its length.
 pub held_says : {t bytes : List ℕ} {len : ℕ} → Says (take len bytes) bytes len → take len bytes ≡ t → Says t bytes len

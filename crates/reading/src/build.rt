@@ -5,7 +5,7 @@ ghost use Rattle.reading.specs.declared.build.TheConstants.{ROOM};
 use crate::show::show;
 use book::entry::ENTRY_BYTES;
 use book::limits::MOST_BYTES;
-use std::io::{self, Write};
+use std::io;
 
 // Room for one byte more than a book may have.
 const ROOM: usize = MOST_BYTES + 1;
@@ -21,6 +21,17 @@ const SUM: &[u8] = b"\x12\x00";
 
 // The first variable.
 const FIRST: &[u8] = b"\x11\x00";
+
+// The room filled by the part, again and again. After the first each copy is of all that stands there, so that few are needed.
+fn repeat(room: &mut [u8], part: &[u8]) {
+    let mut filled = part.len().min(room.len());
+    room[..filled].copy_from_slice(&part[..filled]);
+    while 0 < filled && filled < room.len() {
+        let more = filled.min(room.len() - filled);
+        room.copy_within(..more, filled);
+        filled += more;
+    }
+}
 
 // A book whose bodies stand behind one another; what has no room is an error.
 #[derive(Drop)]
@@ -52,9 +63,12 @@ impl Builder {
         let start = self.end;
         let mut rest = &mut self.bytes[start..];
         for &(part, times) in body {
-            for _ in 0..times {
-                rest.write_all(part)?;
-            }
+            let Some((room, behind)) = rest.split_at_mut_checked(part.len().saturating_mul(times))
+            else {
+                return Err(io::ErrorKind::WriteZero.into());
+            };
+            repeat(room, part);
+            rest = behind;
         }
         self.end = ROOM.saturating_sub(rest.len());
         let [start_low, start_high, ..] = start.to_le_bytes();

@@ -1,13 +1,12 @@
 -- What the reporter answers, way by way through its tests.
 use mathlib.Core.Path.{◌≡◌, refl, sym, ◌∙◌}
 use mathlib.Core.Bool.{Bool, true, false, not}
-use mathlib.Core.List.{List, [], ◌∷◌}
-use mathlib.Core.Option.{none}
+use mathlib.Core.List.{List}
 use Prim.Native.Nat.{ℕ, zero, suc, ◌+◌, ◌*◌, ◌≤◌, ◌<◌}
 use native.Mathlib.Omega.{arith}
 use borrow.Author.Tests.{not-true, eqb-true}
 use lib.Dec.{eqb}
-use lib.ListN.{length, get_or, get_elem?}
+use lib.ListN.{length, get_or}
 use Rattle.meaning.specs.Limits.{most_parameters}
 use Rattle.meaning.specs.Sets.{empty}
 use Rattle.meaning.specs.Reading.{procedures}
@@ -20,9 +19,11 @@ use Rattle.meaning.proofs.Places.{result_place}
 use Rattle.book.proofs.Readable.{ProcedureView}
 use Rattle.book.proofs.Sound.{book_facts, procedure_view}
 use Rattle.book.proofs.Answer.{accepted, rejected}
+use Rattle.std.specs.Prelude.{Result}
+use Rattle.meaning.proofs.OneAnswer.{one_level}
 use Rattle.refusals.specs.declared.Refusal.{Refusal}
-use Rattle.refusals.specs.Numbers.{number}
-use Rattle.refusals.proofs.OneNumber.{some_number}
+use Rattle.refusals.specs.Numbers.{refusal, field}
+use Rattle.refusals.proofs.OneNumber.{one_answer}
 use Rattle.book.specs.Here.{BookHere}
 use Rattle.reporter.specs.Parts.{all_below, fitting_here}
 
@@ -67,9 +68,9 @@ module _ (b t ls σ : List ℕ) (p : ℕ) where
   unfolding no_level
   told_refused n e = record { refusal_is = rw e; level_is = rw e }
 
-  pub book_refused : (r : Refusal) {s : ℕ} → Reads b (number r) s → Reports b t p ls σ (number r) 0
+  pub book_refused : {r s : ℕ} → Reads b r s → (r ≡ 0 → ⊥) → Reports b t p ls σ r 0
   unfolding level_answer
-  book_refused r h = let w = rejected r h in told_refused (number r) (rw (w.is, level_answer, w.number))
+  book_refused {r} h n = let w = rejected h n in told_refused r (rw (w.is, level_answer, ← w.number))
 
   module _ {s : ℕ} (h : Reads b 0 s) where
     here : BookHere b
@@ -82,6 +83,10 @@ module _ (b t ls σ : List ℕ) (p : ℕ) where
       pub procedure_refused : n ≤ p → Reports b t p ls σ 6 0
       procedure_refused k = told_refused 6 (no_procedure b t ls σ p here v (omega arith))
 
+      -- The refusal that is told has this number.
+      pub procedure_told : n ≤ p → {k : ℕ} → k ≡ 6 → Reports b t p ls σ k 0
+      procedure_told l e = rw e (procedure_refused l)
+
       pub levels_refused : p < n → {f : Bool} → f ≡ fitting_here b t p ls → not f ≡ true → Reports b t p ls σ 7 0
       levels_refused k {f} d m = told_refused 7 (fits b t ls σ p here v (omega arith) false (sym d ∙ not-true f m))
 
@@ -89,12 +94,12 @@ module _ (b t ls σ : List ℕ) (p : ℕ) where
         known : p < procedures b
         known = omega arith
 
-        pub summary_refused : (r : Refusal) → Checks b σ (number r) → Reports b t p ls σ (number r) 0
-        summary_refused r q = go (number r) (sym q.refusal_is) (some_number r)
+        pub summary_refused : {r : ℕ} → Checks b σ r → (r ≡ 0 → ⊥) → Reports b t p ls σ r 0
+        summary_refused {r} q w = go r (sym q.refusal_is) w
           where
-            go : (n : ℕ) → check_answer b σ ≡ n → 1 ≤ n → Reports b t p ls σ n 0
-            go zero q l = absurd (omega arith)
-            go (suc n) q l = told_refused (suc n) (no_summary b t ls σ p here v known f q)
+            go : (n : ℕ) → check_answer b σ ≡ n → (n ≡ 0 → ⊥) → Reports b t p ls σ n 0
+            go zero q w = absurd (w refl)
+            go (suc n) q w = told_refused (suc n) (no_summary b t ls σ p here v known f q)
 
         pub level_reported : Checks b σ 0 → {l : ℕ} → l ≡ reported t ls (length ls) (get_or σ p 0) → Reports b t p ls σ 0 l
         unfolding at empty
@@ -122,3 +127,8 @@ first_there h = (book_facts (accepted h).book).some_bytes
 
 pub entry_there : {b : List ℕ} {p n s : ℕ} → Reads b 0 s → n ≡ procedures b → p < n → 7 + 6 * p ≤ length b
 entry_there h e k = omega (arith, (book_facts (accepted h).book).contents)
+
+-- As `one_level` has it of the numbers, of the answer itself.
+pub one_level_answer : {b t ls σ : List ℕ} {p : ℕ} (r s : Result ℕ Refusal) → Reports b t p ls σ (refusal r) (field (λ l. l) r) →
+    Reports b t p ls σ (refusal s) (field (λ l. l) s) → r ≡ s
+one_level_answer r s x y = let o = one_level x y in one_answer r s o.0 (λ a b p q. rw (p, q) at o.1)

@@ -1,8 +1,6 @@
 -- The public answer, way by way.
-use Rattle.std.proofs.Common.{◌≡◌, ℕ, zero, suc, ◌+◌, ◌-◌, ◌*◌, ◌/◌, ◌<◌, ◌≤◌, List, [], ◌∷◌, ◌++◌, length, take, drop, sym, refl, ap, ◌∙◌, arith, length-take-le, eq-eqb, ne_eqb, le-leb}
-use mathlib.Core.Option.{none}
+use Rattle.std.proofs.Common.{◌≡◌, ℕ, zero, suc, ◌+◌, ◌-◌, ◌*◌, ◌/◌, ◌<◌, ◌≤◌, List, ◌++◌, length, take, drop, sym, refl, ap, ◌∙◌, arith, length-take-le, eq-eqb, ne_eqb, le-leb}
 use borrow.Author.Tests.{lt-leb}
-use lib.ListN.{get_elem?}
 use Rattle.meaning.specs.Limits.{most_steps, least_cells}
 use Rattle.meaning.specs.Reading.{entry, procedures}
 use Rattle.meaning.specs.Running.{yield}
@@ -11,13 +9,10 @@ use Rattle.meaning.specs.Entries.{Reads, Runs}
 use Rattle.meaning.proofs.Lists.{none_beyond}
 use Rattle.book.specs.Here.{BookHere}
 use Rattle.book.proofs.Sound.{book_facts, procedure_view}
-use Rattle.refusals.proofs.OneNumber.{some_number}
 use Rattle.book.proofs.Answer.{accepted, rejected}
 use Rattle.runner.specs.Outcome.{ending_of, outcome}
 use Rattle.runner.specs.Opened.{Opened}
 use Rattle.runner.specs.Answer.{answer_of, HasLeft, HasResult}
-use Rattle.refusals.specs.declared.Refusal.{Refusal}
-use Rattle.refusals.specs.Numbers.{number}
 use Rattle.runner.specs.Endings.{ending_of as ending_of_ran, value_of}
 use Rattle.runner.specs.Answering.{EndsAs, AnsweredPost, StartPre, StartedPost, JudgedPost}
 use Rattle.runner.specs.declared.ran.Ran.{Ran as Answer}
@@ -161,17 +156,17 @@ told x e i j k =
     }
 
 -- Refusals leave the cells as they were: those of reading come first, and then those of the run.
-module _ {b : List ℕ} {p : ℕ} {inputs : List ℕ} {budget : ℕ} {work : List ℕ} (r : Refusal) where
-  told_refused : run_answer b p inputs budget work ≡ no_run (number r) work → Runs b p inputs budget work (number r) 0 0 0 work
+module _ {b : List ℕ} {p : ℕ} {inputs : List ℕ} {budget : ℕ} {work : List ℕ} {r : ℕ} where
+  told_refused : run_answer b p inputs budget work ≡ no_run r work → Runs b p inputs budget work r 0 0 0 work
   unfolding no_run
   told_refused e = told _ e refl refl refl
 
-  pub read_refused : {s : ℕ} → Reads b (number r) s → Runs b p inputs budget work (number r) 0 0 0 work
+  pub read_refused : {s : ℕ} → Reads b r s → (r ≡ 0 → ⊥) → Runs b p inputs budget work r 0 0 0 work
   unfolding run_answer
-  read_refused h = let x = rejected r h in told_refused (rw (x.is, run_answer, ← x.number))
+  read_refused h n = let x = rejected h n in told_refused (rw (x.is, run_answer, ← x.number))
 
-  pub judge_refused : JudgedPost b p (length inputs) budget (length work) (number r) → Runs b p inputs budget work (number r) 0 0 0 work
-  judge_refused j = told_refused (j.refuses (λ e. let s = some_number r in omega arith) inputs work refl refl)
+  pub judge_refused : JudgedPost b p (length inputs) budget (length work) r → (r ≡ 0 → ⊥) → Runs b p inputs budget work r 0 0 0 work
+  judge_refused j n = told_refused (j.refuses n inputs work refl refl)
 
 -- A book without a refusal is readable.
 pub read_accepted : {b : List ℕ} {s : ℕ} → Reads b 0 s → BookHere b

@@ -6,6 +6,7 @@ pub mod Rows
 pub mod Heads
 pub mod Frames
 pub mod Memo
+pub mod OneAnswer
 pub mod Ends
 pub mod Smalls
 pub mod Exprs

@@ -1,5 +1,5 @@
 -- The frame of a call in one number: the cells that are its variables, and the call depths left.
-use Rattle.std.specs.Prelude.{◌≡◌, ℕ, ◌+◌, ◌/◌, ◌%◌, ◌<◌, ◌≤◌, List, ◌++◌, length, take, replicate}
+use Rattle.std.specs.Prelude.{◌≡◌, ℕ, ◌+◌, ◌/◌, ◌%◌, ◌<◌, ◌≤◌, List, ◌++◌, length, take, drop, replicate}
 use Rattle.meaning.specs.Reading.{procedures, entry}
 use Rattle.runner.specs.Opened.{Opened}
 
@@ -20,9 +20,10 @@ pub record PreparedPre (b : List ℕ) (p : ℕ) (given w : List ℕ) : Type 0 wh
   pub eight : length given ≡ 8
   pub room : 16 ≤ length w
 
--- Its n variables: parameters start as the values given, locals as 0.
+-- Its n variables: parameters start as the values given, locals as 0. The cells behind them stay as they were.
 pub record PreparedPost (b : List ℕ) (p : ℕ) (given w w' : List ℕ) (n : ℕ) : Type 0 where
   pub counted : n ≡ (entry b p).parameters + (entry b p).locals
   pub few : n ≤ 16
   pub begun : take n w' ≡ take (entry b p).parameters given ++ replicate (entry b p).locals 0
+  pub others : drop n w' ≡ drop n w
   pub long : length w' ≡ length w

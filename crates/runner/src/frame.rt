@@ -4,7 +4,7 @@ ghost use Rattle.meaning.specs.Limits.{most_calls, most_parameters};
 ghost use Rattle.runner.specs.Frame.{cells, depths, Framed, PreparedPre, PreparedPost};
 
 use book::entry::{locals, parameters};
-use book::limits::{MOST_LOCALS, MOST_PARAMETERS};
+use book::limits::MOST_PARAMETERS;
 use std::marker::Model;
 
 // One number, which travels in a register: the cells in the low five bits, the depths above them.
@@ -45,16 +45,18 @@ impl Frame {
     }
 }
 
-// The cells of procedure `p` on the values given: parameters start as the values, locals as 0. How many they are. All eight of
-// each are written, whatever their number, which is quicker than to count, and the cells behind them are free.
+// The cells of procedure `p` on the values given: parameters start as the values, locals as 0. How many they are. The cells
+// behind them stay as they were.
 pub fn prepared(book: &[u8], p: usize, given: &[u32; MOST_PARAMETERS], work: &mut [u32]) -> usize
     requires { PreparedPre book.now p given.now work.old }
     ensures { PreparedPost book.now p given.now work.old work.new result }
 {
     let k = parameters(book, p);
-    work[..MOST_PARAMETERS].copy_from_slice(given);
-    work[k..k + MOST_LOCALS].fill(0);
-    k + locals(book, p)
+    let l = locals(book, p);
+    for i in 0..k + l {
+        work[i] = if i < k { given[i] } else { 0 };
+    }
+    k + l
 }
 
 // The inputs, gathered as a call's values are.

@@ -34,7 +34,7 @@ pub const MOST_STEPS: u64 = 1_000_000;
 pub const MOST_SUMMARY_BYTES: usize = 32 + 64 * 16;
 
 /// A thread whose stack has so many bytes has room for any [`run`], whatever the book: forms nested
-/// to depth 24 in each of 64 calls that are open at once use 222 KiB of it. Not proved;
+/// to depth 24 in each of 64 calls that are open at once use 284 KiB of it. Not proved;
 /// `tests/stack.rs` tries it on every kind of nesting.
 pub const STACK_OF_A_RUN: usize = 416 * 1_024;
 

@@ -2,13 +2,14 @@
 use mathlib.Core.Path.{refl, sym}
 use lib.Seq.{length-take-le}
 use Rattle.std.proofs.lemmas.Result.{err_from_is_err_and}
+use Rattle.refusals.proofs.OneNumber.{not_none}
 use Rattle.lines.proofs.Found.{refused_says, never_refused, fits, results, listed_says}
 use Rattle.lines.proofs.accepted.Goals as goal
 
 pub returns-in_err-book : goal.returns-in_err-book
 returns-in_err-book c =
     let p = err_from_is_err_and c.from_residual.result c.from_residual.ensures.1 in
-    rw (p.1, p.2) (refused_says _ c.in_err-book.ensures.answer)
+    rw (p.1, p.2) (refused_says c.in_err-book.ensures.answer (not_none _))
 
 pub returns-in_err-found : goal.returns-in_err-found
 returns-in_err-found c = absurd (never_refused c.in_ok-book.book.answer refl c.in_err-found.ensures _ refl)

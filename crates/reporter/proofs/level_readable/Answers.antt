@@ -1,8 +1,9 @@
 -- A test of the table, of the procedure and of the levels; then the checker's refusal, or the level by the summary's result.
 use mathlib.Core.List.{[]}
-use Rattle.std.proofs.Common.{rules}
+use Rattle.std.proofs.Common.{rules, tests}
 use Rattle.std.proofs.lemmas.Result.{err_from_is_err_and}
-use Rattle.reporter.proofs.Ways.{table_refused, procedure_refused, levels_refused, summary_refused, level_reported, few_levels, result_there}
+use Rattle.refusals.proofs.OneNumber.{not_none}
+use Rattle.reporter.proofs.Ways.{table_refused, procedure_told, levels_refused, summary_refused, level_reported, few_levels, result_there}
 use Rattle.reporter.proofs.Ways.{first_there, entry_there}
 use Rattle.reporter.proofs.level_readable.Goals as goal
 
@@ -13,7 +14,8 @@ pub bounds-book-0 : goal.bounds-book-0
 bounds-book-0 c = search first_there
 
 pub returns-then-from-procedure : goal.returns-then-from-procedure
-returns-then-from-procedure c = procedure_refused _ _ _ _ _ c.args.book.answer (search rules) c.from.ensures c.if-from-procedure.true
+returns-then-from-procedure c =
+    procedure_told _ _ _ _ _ c.args.book.answer (search rules) c.from.ensures c.if-from-procedure.true (search (rules, tests))
 
 pub fitting-requires : goal.fitting-requires
 fitting-requires c = search entry_there
@@ -26,7 +28,7 @@ pub returns-in_err-check_readable : goal.returns-in_err-check_readable
 returns-in_err-check_readable c =
     let p = err_from_is_err_and c.from_residual.result c.from_residual.ensures.1 in
     rw (p.1, p.2)
-    (summary_refused _ _ _ _ _ c.args.book.answer (search rules) c.from.ensures (search rules) (search rules) _ c.in_err-check_readable.ensures)
+    (summary_refused _ _ _ _ _ c.args.book.answer (search rules) c.from.ensures (search rules) (search rules) c.in_err-check_readable.ensures (not_none _))
 
 pub bounds-summary-p : goal.bounds-summary-p
 bounds-summary-p c =

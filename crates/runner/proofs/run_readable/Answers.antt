@@ -1,5 +1,6 @@
 -- A run that is refused, and one that is let through.
 use Rattle.std.proofs.lemmas.Result.{err_from_is_err_and}
+use Rattle.refusals.proofs.OneNumber.{not_none}
 use Rattle.runner.proofs.Answers.{read_accepted, inputs_few, budget_small, cells_enough, part_long, start_pre, judge_refused, run_done}
 use Rattle.runner.proofs.run_readable.Goals as goal
 
@@ -9,7 +10,7 @@ judged-requires c = read_accepted c.args.book.answer
 pub returns-in_err-judged : goal.returns-in_err-judged
 returns-in_err-judged c =
     let p = err_from_is_err_and c.from_residual.result c.from_residual.ensures.1 in
-    rw (p.1, p.2) (judge_refused _ c.in_err-judged.ensures)
+    rw (p.1, p.2) (judge_refused c.in_err-judged.ensures (not_none _))
 
 pub gather-given-requires : goal.gather-given-requires
 gather-given-requires c = inputs_few c.in_ok-judged.ensures (read_accepted c.args.book.answer)

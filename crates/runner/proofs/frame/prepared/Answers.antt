@@ -1,9 +1,14 @@
--- The values copied, and the locals 0.
-use Rattle.std.proofs.Common.{rules}
-use Rattle.runner.proofs.Frames.{prepared_done}
+-- Parameters as given, then locals 0.
+use Rattle.runner.proofs.Frames.{set_start, set_parameter, set_local, parameters_few, variables_fit, prepared_done}
 use Rattle.runner.proofs.frame.prepared.Goals as goal
+use Rattle.runner.proofs.frame.prepared.Goals.{then-i-k, else-i-k}
+
+pub loop-i-init : goal.loop-i-init
+loop-i-init c =
+    set_start c.requires.eight (parameters_few c.requires c.parameters-k.ensures) (variables_fit c.requires c.parameters-k.ensures c.locals-l.ensures)
+
+pub loop-i-preserved : goal.loop-i-preserved
+loop-i-preserved c = elim c.if-i-k.branch [ then-i-k w ↦ search set_parameter | else-i-k w ↦ search set_local ]
 
 pub returns : goal.returns
-returns c =
-    prepared_done c.requires c.parameters-k.ensures c.locals.ensures c.copy_from_slice.ensures.after
-    (c.fill.ensures.after (λ y e. search rules))
+returns c = search (prepared_done c.requires c.parameters-k.ensures c.locals-l.ensures)
