@@ -21,9 +21,14 @@ const BOOK: usize = MOST_BYTES + 1;
 // The same for a table: the number of levels, and a row for each.
 const TABLE: usize = 1 + MOST_LEVELS * MOST_LEVELS + 1;
 
-// The answer, with the files of the book and of the table. It is never inlined, so that what is said without them needs no room for them.
+// The answer, with the levels and the files that are asked about. It is never inlined, so that what is said without them needs no
+// room for them.
 #[inline(never)]
-fn answered(rt: HostRuntime, a: Asked, procedure: u64, levels: &[u8]) -> io::Result<()> {
+fn answered(rt: HostRuntime, a: Asked, procedure: u64) -> io::Result<()> {
+    let mut levels = [0u8; LEVELS_READ];
+    let Some(levels) = levels_of(rt, a, &mut levels)? else {
+        return Ok(());
+    };
     let mut book = [0u8; BOOK];
     let Some(book) = file_at(rt, a.place(1), &mut book)? else {
         return Ok(());
@@ -55,9 +60,5 @@ fn main(rt: HostRuntime) -> io::Result<()> {
     let Some(procedure) = number_or_line(rt, a.place(3))? else {
         return Ok(());
     };
-    let mut levels = [0u8; LEVELS_READ];
-    let Some(levels) = levels_of(rt, a, &mut levels)? else {
-        return Ok(());
-    };
-    answered(rt, a, procedure, levels)
+    answered(rt, a, procedure)
 }
